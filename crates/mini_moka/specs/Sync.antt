@@ -28,6 +28,7 @@ pub use Rattle.moka_sync.specs.Builder
 pub use Rattle.moka_shard.specs.Rule
 pub use Rattle.moka_locks.specs.Cache
 pub use Rattle.moka_locks.specs.Locked
+pub use Rattle.moka_locks.specs.Moments
 pub use Rattle.moka_locks.specs.Snapshot
 pub use Rattle.moka_locks.specs.History
 pub use Rattle.moka_locks.specs.Tells

@@ -2,6 +2,7 @@
 #![tactic(auto)]
 
 pub mod audit;
+pub mod board;
 pub mod calling;
 pub mod configuration;
 pub mod metrics;

@@ -1,3 +1,4 @@
+pub mod MomentLemmas
 pub mod StepLemmas
 pub mod TellLemmas
 pub mod VisitLemmas

@@ -10,31 +10,31 @@ use Rattle.moka_common.specs.Settings.{Settings}
 use Rattle.moka_history.specs.Steps as act
 use Rattle.moka_history.specs.Steps.{Act}
 use Rattle.moka_locks.specs.History.{Knows, Makes, place_of}
-use Rattle.moka_locks.specs.Locked.{Does, Locked, knowing, locked_allows, locked_caller, locked_decides}
+use Rattle.moka_locks.specs.Locked.{DoesSeeing, Locked, informed_as, locked_allows, locked_caller, locked_decides}
 
 module _ {K V S W : Type 0} (keys : Keys K S) (holds : K → V → Type 0) (weighs : W → K → V → ℕ → Type 0) (old new : Locked K V S W) (key : K) (now : ℕ) where
   -- a get found something
   abbrev pub FoundSome : Type 0
-  FoundSome = (valid_after : ℕ) × (found : V × Ticket) × Does keys holds weighs old key (act.Gets key now valid_after (Some found)) new
+  FoundSome = (found : V × Ticket) × DoesSeeing keys holds weighs old key (λ valid_after. act.Gets key now valid_after (Some found)) new
 
   -- a get for which memory was refused
-  pub get_refused : (result : Result (Option V) MemoryError) → IsErr result → FoundSome → new ≡ knowing new.knows old
+  pub get_refused : (result : Result (Option V) MemoryError) → IsErr result → FoundSome → new ≡ informed_as new old
       → locked_allows keys holds weighs old (Get CALLER key now) (get_reply result) new
   get_refused (Ok found) err did is = let h : false ≡ true = err in absurd (cc)
   get_refused (Err error) err did is = (did, is)
 
   -- a removal for which it was
   pub take_refused : {T : Type 0} (is_taken : V → T → Type 0) (is_sure : V → Type 0) (result : Result (Option T × Bool) MemoryError) → IsErr result
-      → FoundSome → ((value : V) × (¬ (is_sure value))) → new ≡ knowing new.knows old
+      → FoundSome → ((value : V) × (¬ (is_sure value))) → new ≡ informed_as new old
       → Takes (locked_allows keys holds weighs) locked_decides locked_caller is_taken is_sure key now (handed_by result) old new
   take_refused is_taken is_sure (Ok taken) err did unsure is = let h : false ≡ true = err in absurd (cc)
   take_refused is_taken is_sure (Err error) err did unsure is = (unsure, (did, is))
 
   -- a get that found nothing
   pub get_none : (answer : Option (V × Ticket)) → answer ≡ None
-      → (valid_after : ℕ) × Does keys holds weighs old key (act.Gets key now valid_after answer) new
-      → (valid_after : ℕ) × Does keys holds weighs old key (act.Gets key now valid_after None) new
-  get_none answer is did = (did.0, subst (λ found. Does keys holds weighs old key (act.Gets key now did.0 found) new) is did.1)
+      → DoesSeeing keys holds weighs old key (λ valid_after. act.Gets key now valid_after answer) new
+      → DoesSeeing keys holds weighs old key (λ valid_after. act.Gets key now valid_after None) new
+  get_none answer is did = subst (λ found. DoesSeeing keys holds weighs old key (λ valid_after. act.Gets key now valid_after found) new) is did
 
 -- the same of a visitor and of settings that are these
 pub does_here : {K V S : Type 0} {keys : Keys K S} {s settings : Settings S} {u v : Knows K V S} (key : K) (w : Knows K V S) (P : (Act K V → Type 0) → Type 0)

@@ -59,12 +59,11 @@ module _ {K V S : Type 0} (keys : Keys K S) (laws : IsEquivalence keys.eq) (sett
   -- what a get tells
   pub gets : {is_clone : V → V → Type 0} {v w : Knows K V S} {key : K} {now valid_after : ℕ} {found : Option (V × Ticket)}
       {result : Result (Option V) MemoryError} → TellsClone is_clone (option_map (λ f. f.0) found) result
-      → Makes keys settings v (place_of keys settings key) (act.Gets key now valid_after found) w → Gets keys settings is_clone v key now result w
+      → Makes keys settings v (place_of keys settings key) (act.Gets key now valid_after found) w → Gets keys settings is_clone v key now valid_after result w
   gets {v = v} {w = w} {key = key} {now = now} {valid_after = valid_after} {found = found} told made =
       let i = place_of keys settings key in
       let did = (act_of v w i (act.Gets key now valid_after found) made.made).0 in
       record {
-        valid_after = valid_after;
         found = found;
         told = told;
         made = made;
@@ -94,11 +93,10 @@ module _ {K V S : Type 0} (keys : Keys K S) (laws : IsEquivalence keys.eq) (sett
 
   -- what a look tells
   pub looks : {v w : Knows K V S} {key : K} {now valid_after : ℕ} {there : Bool}
-      → Makes keys settings v (place_of keys settings key) (act.Looks key now valid_after there) w → Looks keys settings v key now there w
+      → Makes keys settings v (place_of keys settings key) (act.Looks key now valid_after there) w → Looks keys settings v key now valid_after there w
   looks {v = v} {w = w} {key = key} {now = now} {valid_after = valid_after} {there = there} made =
       let i = place_of keys settings key in
       record {
-        valid_after = valid_after;
         made = made;
         hit = λ is.
             found (unexpired settings valid_after now (entry_at keys.eq key made.made.step.before.entries)) refl

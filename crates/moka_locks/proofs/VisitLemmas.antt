@@ -80,12 +80,11 @@ module _ {K V S : Type 0} (keys : Keys K S) where
       × IsInsert old hash key value weight now refused (entry_at keys.eq key old.entries) answer new
 
 -- what holds of what was found holds of the answer, or of something that was found
-pub found_tells : {X H E : Type 0} (M : ℕ → Option X → Type 0) (valid_after : ℕ) (found : Option X) (r : Result (Option X × H) E)
-    → IfOk r (λ answer. answer.0 ≡ found) → (IsErr r → IsSome found) → M valid_after found
-    → IfOk r (λ answer. (valid_after : ℕ) × M valid_after answer.0) × OnErr r ((valid_after : ℕ) × (x : X) × M valid_after (Some x))
-found_tells M valid_after found (Ok answer) is refused m = ((valid_after, subst (M valid_after) (sym is) m), tt)
-found_tells M valid_after None (Err e) is refused m = let h : false ≡ true = refused refl in absurd (cc)
-found_tells M valid_after (Some x) (Err e) is refused m = (tt, (valid_after, x, m))
+pub found_tells : {X H E : Type 0} (M : Option X → Type 0) (found : Option X) (r : Result (Option X × H) E) → IfOk r (λ answer. answer.0 ≡ found)
+    → (IsErr r → IsSome found) → M found → IfOk r (λ answer. M answer.0) × OnErr r ((x : X) × M (Some x))
+found_tells M found (Ok answer) is refused m = (subst M (sym is) m, tt)
+found_tells M None (Err e) is refused m = let h : false ≡ true = refused refl in absurd (cc)
+found_tells M (Some x) (Err e) is refused m = (tt, (x, m))
 
 -- something is something else
 pub some_mapped : {X Y : Type 0} (f : X → Y) (o : Option X) → IsSome o → IsSome (option_map f o)
@@ -350,12 +349,11 @@ module _ {K V T E : Type 0} (holds : V → Type 0) (is_taken : V → T → Type 
   pub take_tells : (found : Option (V × Ticket)) (result : Result (Option T × Option Ticket) E)
       → IfOk result (λ taken. IsHanded is_taken (value_in found) taken.0) → IfOk result (λ taken. IfSome (value_in found) holds)
       → (IsErr result → IsSome found) → M (take_act key now valid_after found result)
-      → IfOk result (λ taken. (valid_after : ℕ) × (value : Option V) × IsHanded is_taken value taken.0 × IfSome value holds
-      × M (Takes key now valid_after value taken.1))
-      × OnErr result ((valid_after : ℕ) × (f : V × Ticket) × M (Gets key now valid_after (Some f)))
-  take_tells found (Ok taken) handed ruled refused m = ((valid_after, value_in found, handed, ruled, m), tt)
+      → IfOk result (λ taken. (value : Option V) × IsHanded is_taken value taken.0 × IfSome value holds × M (Takes key now valid_after value taken.1))
+      × OnErr result ((f : V × Ticket) × M (Gets key now valid_after (Some f)))
+  take_tells found (Ok taken) handed ruled refused m = ((value_in found, handed, ruled, m), tt)
   take_tells None (Err e) handed ruled refused m = let h : false ≡ true = refused refl in absurd (cc)
-  take_tells (Some f) (Err e) handed ruled refused m = (tt, (valid_after, f, m))
+  take_tells (Some f) (Err e) handed ruled refused m = (tt, (f, m))
 
 pub both_err : {T E : Type 0} (X Y : Type 0) (answer : Result T E) → OnErr answer X → OnErr answer Y → OnErr answer (X × Y)
 both_err X Y (Ok t) x y = tt

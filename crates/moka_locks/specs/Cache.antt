@@ -3,13 +3,18 @@ use Rattle.std.specs.Prelude.{Option}
 use Rattle.atomic_table.specs.Seated.{TableId}
 use Rattle.moka_common.specs.Settings.{Settings}
 
+-- which cache it is: its shards, and the moments of its invalidations of all
+pub record CacheId : Type 0 where
+  pub shards : TableId
+  pub moments : TableId
+
 -- its settings, its weigher, the counts that are published, if they are, and which cache it is
 pub record Cache (S W : Type 0) : Type 0 where
   pub settings : Settings S
   pub weigher : W
   pub counted : Option TableId
-  pub id : TableId
+  pub id : CacheId
 
 -- the cache of these
-abbrev pub new_cache : {S W : Type 0} → Settings S → W → Option TableId → TableId → Cache S W
+abbrev pub new_cache : {S W : Type 0} → Settings S → W → Option TableId → CacheId → Cache S W
 new_cache settings weigher counted id = record { settings = settings; weigher = weigher; counted = counted; id = id }

@@ -1,5 +1,5 @@
 -- A cache behind locks as one caller has it, and what is known of each step of that caller.
-use Rattle.std.specs.Prelude.{◌≡◌, ◌⊎◌, ℕ, Bool, Option, None, Some, IfSome, Result, Ok, Err, is_some, if◌then◌else◌}
+use Rattle.std.specs.Prelude.{◌≡◌, ◌⊎◌, ℕ, Bool, List, Option, None, Some, IfSome, Result, Ok, Err, is_some, if◌then◌else◌}
 use Rattle.moka_common.specs.Keys.{Keys}
 use Rattle.moka_common.specs.declared.error.InsertError.{InsertError}
 use Rattle.moka_common.specs.declared.error.InsertError.TheVariants as refused
@@ -25,6 +25,7 @@ use Rattle.moka_locks.specs.declared.locked.Pending.{Pending}
 use Rattle.moka_locks.specs.declared.locked.Pending.TheVariants as pending
 use Rattle.moka_locks.specs.Cache.{Cache}
 use Rattle.moka_locks.specs.History.{Knows, Makes, Puts, place_of}
+use Rattle.moka_locks.specs.Moments.{Appends, GoesOn, latest}
 use Rattle.moka_locks.specs.MaintenanceTurn.{IsWorkingTurn, Working, empty_handed}
 
 -- the operation that is pending
@@ -33,10 +34,12 @@ operation_of pending.Nothing = None
 operation_of (pending.Read logged) = Some (Reading logged.read)
 operation_of (pending.Write write) = Some (Writing write)
 
--- the cache, what the caller knows of its shards, the operation that it has not pushed yet, and the maintenance that it runs, with the writes at hand
+-- the cache, what the caller knows of its shards, the moments of invalidations of all that it has seen, the operation that it has not pushed yet, and the
+-- maintenance that it runs, with the writes at hand
 pub record Locked (K V S W : Type 0) : Type 0 where
   pub cache : Cache S W
   pub knows : Knows K V S
+  pub moments : List ℕ
   pub pending : Option Operation
   pub working : Option Working
 
@@ -46,12 +49,13 @@ module _ {K V S W : Type 0} where
   locked_caller locked = record { pending = kind_of locked.pending; is_maintaining = is_some locked.working }
 
   -- it has nothing under way
-  abbrev pub resting_at : Cache S W → Knows K V S → Locked K V S W
-  resting_at cache knows = record { cache = cache; knows = knows; pending = None; working = None }
+  abbrev pub resting_at : Cache S W → Knows K V S → List ℕ → Locked K V S W
+  resting_at cache knows moments = record { cache = cache; knows = knows; moments = moments; pending = None; working = None }
 
   -- a call of the cache itself is one of a guest that has made no other
   abbrev pub CallsByGuest : Cache S W → (Locked K V S W → Locked K V S W → Type 0) → Type 0
-  CallsByGuest cache calls = (seat : ℕ) × (new : Locked K V S W) × calls (resting_at cache (newcomer cache.settings (guest seat))) new
+  CallsByGuest cache calls =
+      (seat : ℕ) × (moments : List ℕ) × (new : Locked K V S W) × calls (resting_at cache (newcomer cache.settings (guest seat)) moments) new
 
   -- it has left this
   abbrev pub leaving : Option Operation → Locked K V S W → Locked K V S W
@@ -70,6 +74,14 @@ module _ {K V S W : Type 0} where
   abbrev pub knowing : Knows K V S → Locked K V S W → Locked K V S W
   knowing knows locked = record locked { knows = knows }
 
+  -- and has seen these moments
+  abbrev pub having_seen : List ℕ → Locked K V S W → Locked K V S W
+  having_seen moments locked = record locked { moments = moments }
+
+  -- it knows what another does, and has seen the moments that the other has seen
+  abbrev pub informed_as : Locked K V S W → Locked K V S W → Locked K V S W
+  informed_as new locked = having_seen new.moments (knowing new.knows locked)
+
   -- a look at a log and at the time may decide anything, and changes nothing that the caller has under way
   abbrev pub locked_decides : Locked K V S W → Log → ℕ → Bool → Locked K V S W → Type 0
   locked_decides old log now runs new = new ≡ old
@@ -83,12 +95,17 @@ module _ {K V S W : Type 0} (keys : Keys K S) (holds : K → V → Type 0) (weig
   abbrev pub Does : Locked K V S W → K → Act K V → Locked K V S W → Type 0
   Does old key act new = Makes keys old.cache.settings old.knows (place_of keys old.cache.settings key) act new.knows
 
+  -- this was done there, by the latest moment of an invalidation of all: one that the caller had seen, or a later one
+  abbrev pub DoesSeeing : Locked K V S W → K → (ℕ → Act K V) → Locked K V S W → Type 0
+  DoesSeeing old key act new = Does old key (act (latest new.moments)) new × GoesOn old.moments new.moments
+
   -- an insert with this answer
   abbrev pub DoesPut : Locked K V S W → K → V → ℕ → Result Ticket InsertError → Locked K V S W → Type 0
   DoesPut old key value now answer new = Puts keys old.cache.settings (weighs old.cache.weigher) old.knows key value now answer new.knows
 
   -- What a step may reply and leave, whatever other callers do meanwhile. What the caller has under way is exact. A step on a shard is noted in the history of
-  -- the shard, which leads from a new shard to this step and on. And the maintenance takes the turns of the definitions.
+  -- the shard, which leads from a new shard to this step and on. An invalidation of all leaves its moment. And the maintenance takes the turns of the
+  -- definitions.
   abbrev pub locked_allows : Locked K V S W → Event K V → Reply K V → Locked K V S W → Type 0
   locked_allows old (Insert caller key value now) Done new =
       (t : Ticket) × DoesPut old key value now (Ok t) new × (new ≡ leaving (Some (Writing (Upsert t))) (knowing new.knows old))
@@ -97,25 +114,25 @@ module _ {K V S W : Type 0} (keys : Keys K S) (holds : K → V → Type 0) (weig
   locked_allows old (Insert caller key value now) TicketsUsedUp new =
       DoesPut old key value now (Err refused.TicketsUsedUp) new × (new ≡ knowing new.knows old)
   locked_allows old (Get caller key now) (Found None) new =
-      ((valid_after : ℕ) × Does old key (Gets key now valid_after None) new)
-      × (new ≡ leaving (Some (Reading (Miss (keys.hash_of old.cache.settings.hash_state key)))) (knowing new.knows old))
+      DoesSeeing old key (λ valid_after. Gets key now valid_after None) new
+      × (new ≡ leaving (Some (Reading (Miss (keys.hash_of old.cache.settings.hash_state key)))) (informed_as new old))
   locked_allows old (Get caller key now) (Found (Some value)) new =
       holds key value
-      × ((t : Ticket) × ((valid_after : ℕ) × Does old key (Gets key now valid_after (Some (value, t))) new)
-      × (new ≡ leaving (Some (Reading (Hit t now))) (knowing new.knows old)))
+      × ((t : Ticket) × DoesSeeing old key (λ valid_after. Gets key now valid_after (Some (value, t))) new
+      × (new ≡ leaving (Some (Reading (Hit t now))) (informed_as new old)))
   locked_allows old (Get caller key now) OutOfMemory new =
-      ((valid_after : ℕ) × (found : V × Ticket) × Does old key (Gets key now valid_after (Some found)) new) × (new ≡ knowing new.knows old)
+      ((found : V × Ticket) × DoesSeeing old key (λ valid_after. Gets key now valid_after (Some found)) new) × (new ≡ informed_as new old)
   locked_allows old (Contains key now) (Truth is_there) new =
-      ((valid_after : ℕ) × Does old key (Looks key now valid_after is_there) new) × (new ≡ knowing new.knows old)
+      DoesSeeing old key (λ valid_after. Looks key now valid_after is_there) new × (new ≡ informed_as new old)
   locked_allows old (Invalidate caller key now) Done new =
       (left : Option Ticket) × Does old key (Invalidates key left) new × (new ≡ removing left (knowing new.knows old))
   locked_allows old (Take caller key now) (Found found) new =
       IfSome found (λ value. holds key value)
-      × ((left : Option Ticket) × ((valid_after : ℕ) × Does old key (Takes key now valid_after found left) new)
-      × (new ≡ removing left (knowing new.knows old)))
+      × ((left : Option Ticket) × DoesSeeing old key (λ valid_after. Takes key now valid_after found left) new
+      × (new ≡ removing left (informed_as new old)))
   locked_allows old (Take caller key now) OutOfMemory new =
-      ((valid_after : ℕ) × (found : V × Ticket) × Does old key (Gets key now valid_after (Some found)) new) × (new ≡ knowing new.knows old)
-  locked_allows old (InvalidateAll now) Done new = new ≡ old
+      ((found : V × Ticket) × DoesSeeing old key (λ valid_after. Gets key now valid_after (Some found)) new) × (new ≡ informed_as new old)
+  locked_allows old (InvalidateAll now) Done new = Appends old.moments now new.moments × (new ≡ having_seen new.moments old)
   locked_allows old (Push caller) Done new = new ≡ leaving None old
   locked_allows old (Push caller) Discarded new = ((read : Read) × (old.pending ≡ Some (Reading read))) × (new ≡ leaving None old)
   locked_allows old (Push caller) NotPossible new = ((write : Write) × (old.pending ≡ Some (Writing write))) × (new ≡ old)

@@ -43,10 +43,9 @@ module _ {K V S : Type 0} (keys : Keys K S) (settings : Settings S) where
       (e : Entry K V) × (entry_at keys.eq key shard.entries ≡ Some e)
       × (last_write_of e ≡ record { value = value; written = now; used = now; ticket = t })
 
-  -- what a get makes and tells, in the shard of its key
-  pub record Gets (is_clone : V → V → Type 0) (old : Knows K V S) (key : K) (now : ℕ) (result : Result (Option V) error.OutOfMemory) (new : Knows K V S)
-      : Type 0 where
-    pub valid_after : ℕ
+  -- what a get makes and tells, in the shard of its key, where what was written or used before a moment is hidden
+  pub record Gets (is_clone : V → V → Type 0) (old : Knows K V S) (key : K) (now valid_after : ℕ) (result : Result (Option V) error.OutOfMemory)
+      (new : Knows K V S) : Type 0 where
     pub found : Option (V × Ticket)
     pub told : TellsClone is_clone (option_map (λ f. f.0) found) result
     pub made : Makes keys settings old (place_of keys settings key) (act.Gets key now valid_after found) new
@@ -54,8 +53,7 @@ module _ {K V S : Type 0} (keys : Keys K S) (settings : Settings S) where
     pub miss : Misses key now valid_after (option_map (λ f. f.0) found) new
 
   -- what a look makes and tells: where the key is there, some value is current
-  pub record Looks (old : Knows K V S) (key : K) (now : ℕ) (there : Bool) (new : Knows K V S) : Type 0 where
-    pub valid_after : ℕ
+  pub record Looks (old : Knows K V S) (key : K) (now valid_after : ℕ) (there : Bool) (new : Knows K V S) : Type 0 where
     pub made : Makes keys settings old (place_of keys settings key) (act.Looks key now valid_after there) new
     pub hit : there ≡ true
         → (value : V) × IsCurrent keys.eq settings.policy valid_after now (act.acts (steps (rest (at new.seen (place_of keys settings key))))) key value
@@ -67,9 +65,9 @@ module _ {K V S : Type 0} (keys : Keys K S) (settings : Settings S) where
   Inserts weighs old key value now (Err error) new = (new ≡ old) ⊎ Puts keys settings weighs old key value now (Err error) new
 
   -- what a removal makes and tells: what it hands back is what a get in its place would find. If memory for that is refused, it is a get.
-  abbrev pub Removes : (V → V → Type 0) → Knows K V S → K → ℕ → Result (Option V) error.OutOfMemory → Knows K V S → Type 0
-  Removes is_clone old key now (Ok handed) new =
-      (valid_after : ℕ) × (found : Option V) × (left : Option Ticket) × IsHanded is_clone found handed
+  abbrev pub Removes : (V → V → Type 0) → Knows K V S → K → ℕ → ℕ → Result (Option V) error.OutOfMemory → Knows K V S → Type 0
+  Removes is_clone old key now valid_after (Ok handed) new =
+      (found : Option V) × (left : Option Ticket) × IsHanded is_clone found handed
       × Makes keys settings old (place_of keys settings key) (act.Takes key now valid_after found left) new × Hits key now valid_after found new
-  Removes is_clone old key now (Err error) new =
-      (valid_after : ℕ) × (found : V × Ticket) × Makes keys settings old (place_of keys settings key) (act.Gets key now valid_after (Some found)) new
+  Removes is_clone old key now valid_after (Err error) new =
+      (found : V × Ticket) × Makes keys settings old (place_of keys settings key) (act.Gets key now valid_after (Some found)) new

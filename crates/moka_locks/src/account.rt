@@ -1,4 +1,5 @@
 //! The account of a shard: it is what the steps of its history lead to.
+use crate::moments::Witness;
 use moka_row::row::{Account, Row, RowTable, Visitor};
 use moka_shard::rule::PairRule;
 use moka_shard::shard::Shard;
@@ -55,5 +56,18 @@ pub type ShardTable<K, V, S, P, A> = RowTable<
     A,
 >;
 
-/// A caller's seat at the shards.
-pub type Caller<K, V, S, P, A> = Visitor<Shard<K, V, S, P, A>, Visit<K, V, S>, Settings<S, A>>;
+/// A seat at the shards.
+pub type ShardSeat<K, V, S, P, A> = Visitor<Shard<K, V, S, P, A>, Visit<K, V, S>, Settings<S, A>>;
+
+/// A caller's seats: at the shards, and at the moments of the invalidations of all.
+#[derive(Drop)]
+pub struct Caller<
+    K: Eq + Hash + Drop,
+    V: Drop,
+    S: BuildHasher + Drop,
+    P: PairRule<K, V>,
+    A: Allocator + Clone + Drop,
+> {
+    pub shards: ShardSeat<K, V, S, P, A>,
+    pub moments: Witness,
+}

@@ -1,13 +1,13 @@
 //! What all clones of a cache share: its shards, its logs and its maintenance, each behind a lock, and some words.
 ghost use Rattle.std.specs.Prelude.{◌≡◌, ◌<◌, ◌+◌, ◌++◌, [], ◌∷◌, ℕ, List, Some, map, IfOk, IfSome, OnOk};
-ghost use Rattle.atomic_table.specs.Seated.{TableId};
 ghost use Rattle.moka_sync_model.specs.declared.constants.TheConstants.{SHARDS};
 ghost use Rattle.moka_common.specs.Keys.{keys_by};
-ghost use Rattle.moka_locks.specs.Cache.{new_cache};
+ghost use Rattle.moka_locks.specs.Cache.{CacheId, new_cache};
 ghost use Rattle.moka_locks.specs.Charged.{counts_of};
 ghost use Rattle.moka_guards.specs.Log.{IsChain, IsSuffix};
 ghost use Rattle.moka_sync_model.specs.Published.{opening};
 ghost use Rattle.moka_locks.specs.History.{place_of};
+ghost use Rattle.moka_locks.specs.Moments.{GoesOn, seeing};
 ghost use Rattle.moka_row.specs.Kept.{Hears};
 ghost use Rattle.moka_row.specs.Visits.{guest, newcomer, note_of};
 ghost use Rattle.moka_locks.specs.Snapshot.{CopiesShard, IsSnapshot};
@@ -84,7 +84,7 @@ impl<
       settings = i.shards.settings;
       weigher = i.weigher;
       counted = i.counts;
-      id = i.shards.table.shared.table_id;
+      id = record { shards = i.shards.table.shared.table_id; moments = i.shards.moments.table.shared.table_id };
     } };
 }
 
@@ -103,7 +103,7 @@ impl<
         publisher: Option<Publisher<A>>,
     ) -> Result<Self, OutOfMemory>
         requires { IfSome publisher (λ p. p.published ≡ opening ∷ []) }
-        ensures { IfOk result (λ inner. (id : TableId) × (inner ≡ new_cache
+        ensures { IfOk result (λ inner. (id : CacheId) × (inner ≡ new_cache
             (record { hash_state = parts.hash_state; policy = parts.policy; is_weighed = parts.is_weighed }) parts.weigher (counts_of publisher) id)) }
     {
         let counts = counts_of(&publisher)?;
@@ -142,32 +142,48 @@ impl<
         &self.alloc
     }
 
-    /// Returns a new guest at the shards, who has seen nothing and made no visit.
+    /// Returns the seats of a new guest, who has made no visit.
     pub fn come(&self) -> Caller<K, V, S, P, A>
-        ensures table { result.table_id ≡ self.now.id }
-        ensures new { (seat : ℕ) × (result.me ≡ (newcomer self.now.settings (guest seat), [])) }
+        ensures table { result.shards.table_id ≡ self.now.id.shards }
+        ensures new { (seat : ℕ) × (result.shards.me ≡ (newcomer self.now.settings (guest seat), [])) }
+        ensures moments { (result.moments.table_id ≡ self.now.id.moments) × (result.moments.me.1 ≡ []) }
     {
         self.shards.come()
     }
 
     /// Returns a note of what a caller has seen so far.
     pub fn note(&self, caller: &mut Caller<K, V, S, P, A>) -> Caller<K, V, S, P, A>
-        requires { caller.old.table_id ≡ self.now.id }
-        ensures same { (caller.new.table_id ≡ caller.old.table_id) × (caller.new.me ≡ caller.old.me) }
-        ensures table { result.table_id ≡ caller.old.table_id }
-        ensures note { result.me ≡ (note_of caller.old.me.0, []) }
+        requires table { caller.old.shards.table_id ≡ self.now.id.shards }
+        requires moments { caller.old.moments.table_id ≡ self.now.id.moments }
+        ensures shards { (caller.new.shards.table_id ≡ caller.old.shards.table_id) × (caller.new.shards.me ≡ caller.old.shards.me) }
+        ensures moments { (caller.new.moments.table_id ≡ caller.old.moments.table_id) × (caller.new.moments.me ≡ caller.old.moments.me) }
+        ensures table { (result.shards.table_id ≡ self.now.id.shards) × (result.moments.table_id ≡ self.now.id.moments) }
+        ensures note { result.shards.me ≡ (note_of caller.old.shards.me.0, []) }
+        ensures seen { result.moments.me ≡ (seeing caller.old.moments.me.0.seen, []) }
     {
-        seats::note(&self.shards.table.shared, caller)
+        let moments = self.shards.moments.note(&mut caller.moments);
+        Caller {
+            shards: seats::note(&self.shards.table.shared, &mut caller.shards),
+            moments,
+        }
     }
 
-    /// Tells a caller what a note says: the histories that it knows go on from those too.
+    /// Tells a caller what a note says: the histories that it knows go on from those too, and so do the moments.
     pub fn learn(&self, caller: &mut Caller<K, V, S, P, A>, note: Caller<K, V, S, P, A>)
-        requires table { caller.old.table_id ≡ self.now.id }
-        requires note { (note.table_id ≡ self.now.id) × (note.me.1 ≡ []) }
-        ensures same { (caller.new.table_id ≡ caller.old.table_id) × (caller.new.me.1 ≡ caller.old.me.1) }
-        ensures told { Hears caller.old.me.0 note.me.0.seen caller.new.me.0 }
+        requires table { caller.old.shards.table_id ≡ self.now.id.shards }
+        requires moments { caller.old.moments.table_id ≡ self.now.id.moments }
+        requires note { (note.shards.table_id ≡ self.now.id.shards) × (note.shards.me.1 ≡ []) }
+        requires seen { (note.moments.table_id ≡ self.now.id.moments) × (note.moments.me.1 ≡ []) }
+        ensures shards { (caller.new.shards.table_id ≡ caller.old.shards.table_id) × (caller.new.shards.me.1 ≡ caller.old.shards.me.1) }
+        ensures moments { (caller.new.moments.table_id ≡ caller.old.moments.table_id) × (caller.new.moments.me.1 ≡ caller.old.moments.me.1) }
+        ensures told { Hears caller.old.shards.me.0 note.shards.me.0.seen caller.new.shards.me.0 }
+        ensures goes_on { GoesOn caller.old.moments.me.0.seen caller.new.moments.me.0.seen }
+        ensures learns { GoesOn note.moments.me.0.seen caller.new.moments.me.0.seen }
     {
-        seats::learn(&self.shards.table.shared, caller, note);
+        let Caller { shards, moments } = note;
+        seats::learn(&self.shards.table.shared, &mut caller.shards, shards);
+        let ours = &self.shards.moments;
+        ours.learn(&mut caller.moments, moments);
     }
 
     /// Returns the live pairs of a shard, shared, by a visit of a guest.
@@ -185,7 +201,7 @@ impl<
             All (λ p. place_of (keys_by K.Hash S.BuildHasher S.Hasher.Hasher) self.now.settings p.0 ≡ number) pairs.items) }
         ensures copies { IfOk result (λ pairs. CopiesShard (keys_by K.Hash S.BuildHasher S.Hasher.Hasher) self.now.settings now number pairs.items) }
     {
-        let mut guest = self.shards.come();
+        let mut guest = self.shards.new_seat();
         let pairs = self.shards.pairs(rt, &mut guest, number, alloc, now);
         drop(guest);
         pairs

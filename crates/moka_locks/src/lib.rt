@@ -7,5 +7,6 @@ mod idle;
 pub mod inner;
 pub mod laws;
 pub mod locked;
+pub mod moments;
 mod running;
 pub mod shards;

@@ -1,5 +1,5 @@
 //! The steps of one caller on a cache behind locks.
-ghost use Rattle.std.specs.Prelude.{◌≡◌, ℕ, None, IfSome};
+ghost use Rattle.std.specs.Prelude.{◌≡◌, [], ℕ, List, None, IfSome};
 ghost use Rattle.moka_common.specs.Settings.{keeps_writes};
 ghost use Rattle.moka_sync_model.specs.Phase.{Idle};
 ghost use Rattle.moka_locks.specs.Locked.{resting_at, running};
@@ -81,7 +81,7 @@ impl<
     W: Drop,
     A: Allocator + Clone + Drop,
 > Model for Locked<'a, K, V, S, P, W, A> {
-    ghost use Rattle.std.specs.Prelude.{◌≡◌, IfSome, option_map};
+    ghost use Rattle.std.specs.Prelude.{◌≡◌, [], IfSome, option_map};
     ghost use Rattle.moka_common.specs.Settings.{keeps_writes};
     ghost use Rattle.moka_locks.specs.Locked.{Locked as LockedValue, operation_of};
     ghost use Rattle.moka_locks.specs.SameTickets.{IsOrdered};
@@ -91,13 +91,15 @@ impl<
 
     ghost view = { λ l. record {
       cache = l.inner.now;
-      knows = l.caller.me.0;
+      knows = l.caller.shards.me.0;
+      moments = l.caller.moments.me.0.seen;
       pending = operation_of l.pending;
       working = option_map (λ r. r.working) l.running;
     } };
 
     ghost invariant = { λ l. IfSome l.running (λ r. (r.keeps_writes ≡ keeps_writes l.inner.now.settings.policy) × IsOrdered r)
-        × (l.caller.table_id ≡ l.inner.now.id) × IsIdle l.inner.now.settings l.caller.me };
+        × (l.caller.shards.table_id ≡ l.inner.now.id.shards) × IsIdle l.inner.now.settings l.caller.shards.me
+        × (l.caller.moments.table_id ≡ l.inner.now.id.moments) × (l.caller.moments.me.1 ≡ []) };
 }
 
 impl<
@@ -111,15 +113,16 @@ impl<
 > Locked<'a, K, V, S, P, W, A> {
     /// Begins a call by a new guest, with nothing under way.
     pub fn new(inner: &'a Inner<K, V, S, P, W, A>) -> Self
-        ensures { (seat : ℕ) × (result ≡ resting_at inner.now (newcomer inner.now.settings (guest seat))) }
+        ensures { (seat : ℕ) × (moments : List ℕ) × (result ≡ resting_at inner.now (newcomer inner.now.settings (guest seat)) moments) }
     {
         Locked::by(inner, inner.shards.come())
     }
 
-    /// Begins a call by a caller who has a seat at the shards, with nothing under way.
+    /// Begins a call by a caller who has seats, with nothing under way.
     pub fn by(inner: &'a Inner<K, V, S, P, W, A>, caller: Caller<K, V, S, P, A>) -> Self
-        requires { (caller.table_id ≡ inner.now.id) × IsIdle inner.now.settings caller.me }
-        ensures { result ≡ resting_at inner.now caller.me.0 }
+        requires shards { (caller.shards.table_id ≡ inner.now.id.shards) × IsIdle inner.now.settings caller.shards.me }
+        requires moments { (caller.moments.table_id ≡ inner.now.id.moments) × (caller.moments.me.1 ≡ []) }
+        ensures { result ≡ resting_at inner.now caller.shards.me.0 caller.moments.me.0.seen }
     {
         Locked {
             inner,
@@ -130,11 +133,13 @@ impl<
         }
     }
 
-    /// Ends the call. Returns the caller's seat.
+    /// Ends the call. Returns the caller's seats.
     pub fn into_caller(self) -> Caller<K, V, S, P, A>
-        ensures table { result.table_id ≡ self.entry.cache.id }
-        ensures idle { IsIdle self.entry.cache.settings result.me }
-        ensures knows { result.me.0 ≡ self.entry.knows }
+        ensures table { result.shards.table_id ≡ self.entry.cache.id.shards }
+        ensures idle { IsIdle self.entry.cache.settings result.shards.me }
+        ensures knows { result.shards.me.0 ≡ self.entry.knows }
+        ensures seat { (result.moments.table_id ≡ self.entry.cache.id.moments) × (result.moments.me.1 ≡ []) }
+        ensures moments { result.moments.me.0.seen ≡ self.entry.moments }
     {
         let Locked {
             inner: _,
@@ -208,7 +213,7 @@ impl<
     ) -> Result<(), InsertError> {
         let inner = self.inner;
         let (shards, weigher) = (&inner.shards, &inner.weigher);
-        let ticket = shards.insert(rt, &mut self.caller, key, value, weigher, now)?;
+        let ticket = shards.insert(rt, &mut self.caller.shards, key, value, weigher, now)?;
         self.pending = Pending::Write(Write::Upsert { ticket });
         Ok(())
     }
@@ -221,7 +226,9 @@ impl<
     ) -> Result<Option<Shared<V, A>>, OutOfMemory> {
         let inner = self.inner;
         let hash = inner.shards.hash_of(key);
-        let (found, hint) = inner.shards.get(rt, &mut self.caller, key, hash, now)?;
+        let caller = &mut self.caller;
+        let (seat, witness) = (&mut caller.shards, &mut caller.moments);
+        let (found, hint) = inner.shards.get(rt, seat, witness, key, hash, now)?;
         let Some((value, ticket)) = found else {
             let read = Read::Miss { hash };
             self.pending = Pending::Read(LoggedRead { read, hint });
@@ -237,12 +244,14 @@ impl<
 
     fn contains_key<R: Wait>(&mut self, rt: &R, key: &K, now: Instant) -> bool {
         let inner = self.inner;
-        inner.shards.contains_key(rt, &mut self.caller, key, now)
+        let caller = &mut self.caller;
+        let (seat, witness) = (&mut caller.shards, &mut caller.moments);
+        inner.shards.contains_key(rt, seat, witness, key, now)
     }
 
     fn invalidate<R: Wait>(&mut self, rt: &R, key: &K, _now: Instant) -> bool {
         let inner = self.inner;
-        let left = inner.shards.invalidate(rt, &mut self.caller, key);
+        let left = inner.shards.invalidate(rt, &mut self.caller.shards, key);
         let Some(ticket) = left else {
             return false;
         };
@@ -252,7 +261,8 @@ impl<
 
     fn invalidate_all(&mut self, now: Instant) {
         let inner = self.inner;
-        inner.shards.invalidate_all(now);
+        let moments = &inner.shards.moments;
+        moments.invalidate(&mut self.caller.moments, now);
     }
 
     #[inline]
@@ -336,7 +346,9 @@ impl<
         now: Instant,
     ) -> Result<(Option<V>, bool), OutOfMemory> {
         let inner = self.inner;
-        let (handed, ticket) = inner.shards.take(rt, &mut self.caller, key, now)?;
+        let caller = &mut self.caller;
+        let (seat, witness) = (&mut caller.shards, &mut caller.moments);
+        let (handed, ticket) = inner.shards.take(rt, seat, witness, key, now)?;
         let Some(ticket) = ticket else {
             return Ok((handed, false));
         };

@@ -1,5 +1,5 @@
 //! The shards of a cache, each behind a lock that keeps the history of what was done under it.
-ghost use Rattle.std.specs.Prelude.{◌≡◌, ◌<◌, ◌≤◌, ℕ, [], IfOk, vec_len};
+ghost use Rattle.std.specs.Prelude.{◌≡◌, ◌≤◌, ℕ, [], IfOk, vec_len};
 ghost use Rattle.moka_common.specs.Keys.{keys_by};
 ghost use Rattle.moka_locks.specs.History.{AreShards, IsSized};
 ghost use Rattle.moka_row.specs.Visits.{IsPlace, guest, newcomer};
@@ -9,7 +9,8 @@ ghost use Rattle.moka_sync_model.specs.Ticket.{shard_of};
 mod calls;
 mod turns;
 
-use crate::account::{Caller, ShardTable};
+use crate::account::{Caller, ShardSeat, ShardTable};
+use crate::moments::Moments;
 use moka_common::error::OutOfMemory;
 use moka_common::time::Instant;
 use moka_row::row::{come, open};
@@ -19,9 +20,8 @@ use moka_sync_model::constants::SHARDS;
 use moka_sync_model::settings::Settings;
 use std::alloc::Allocator;
 use std::hash::{BuildHasher, Hash};
-use std::sync::atomic::{AtomicU64, Ordering};
 
-/// The shards, and what the steps on them need: the settings, and the moment of the last invalidation of all, which hides older entries.
+/// The shards, and what the steps on them need: the settings, and the moments of the invalidations of all, which hide older entries.
 #[derive(Drop)]
 pub struct Shards<
     K: Eq + Hash + Drop,
@@ -31,7 +31,7 @@ pub struct Shards<
     A: Allocator + Clone + Drop,
 > {
     pub(crate) settings: Settings<S, A>,
-    valid_after: AtomicU64,
+    pub(crate) moments: Moments<A>,
     pub(crate) table: ShardTable<K, V, S, P, A>,
     pub ghost planned: { table.shared.key ≡ settings },
     pub ghost sized: { IsSized table.shared.table_id },
@@ -67,22 +67,37 @@ impl<
         requires count { vec_len shards ≡ SHARDS }
         ensures { IfOk result (λ shards. shards.settings ≡ settings) }
     {
+        let moments = Moments::new(alloc.clone()?)?;
         let (table, dealer) = open(alloc, shards, &settings)?;
         drop(dealer);
         Ok(Shards {
             settings,
-            valid_after: AtomicU64::new(0),
+            moments,
             table,
         })
     }
 
-    /// Returns a new guest, who has seen nothing and made no visit.
+    /// Returns a seat at the shards for a new guest, who has seen nothing and made no visit.
     #[inline]
-    pub(crate) fn come(&self) -> Caller<K, V, S, P, A>
+    pub(crate) fn new_seat(&self) -> ShardSeat<K, V, S, P, A>
         ensures table { result.table_id ≡ self.now.table.shared.table_id }
         ensures new { (seat : ℕ) × (result.me ≡ (newcomer self.now.table.shared.key (guest seat), [])) }
     {
         come(&self.table.shared)
+    }
+
+    /// Returns the seats of a new guest, who has made no visit.
+    #[inline]
+    pub(crate) fn come(&self) -> Caller<K, V, S, P, A>
+        ensures table { result.shards.table_id ≡ self.now.table.shared.table_id }
+        ensures new { (seat : ℕ) × (result.shards.me ≡ (newcomer self.now.table.shared.key (guest seat), [])) }
+        ensures moments { (result.moments.table_id ≡ self.now.moments.table.shared.table_id) × (result.moments.me.1 ≡ []) }
+    {
+        let (_latest, moments) = self.moments.come();
+        Caller {
+            shards: self.new_seat(),
+            moments,
+        }
     }
 
     /// Returns the hash of a key.
@@ -105,7 +120,7 @@ impl<
     /// Returns the moment of the last invalidation of all; older entries are hidden. An entry is tested by one that is loaded while the lock of its shard is
     /// held: then it sees each invalidation that had ended when the entry was written.
     pub(crate) fn valid_after(&self) -> Instant {
-        Instant::from_nanos(self.valid_after.load(Ordering::Acquire))
+        self.moments.come().0
     }
 
     /// Returns the moment of the last invalidation of all, or `before` if that is later.
@@ -113,11 +128,6 @@ impl<
         ensures { before ≤ result }
     {
         self.valid_after().max(before)
-    }
-
-    /// Hides all entries that were last written, or last read, before a moment.
-    pub(crate) fn invalidate_all(&self, now: Instant) {
-        self.valid_after.fetch_max(now.nanos(), Ordering::AcqRel);
     }
 }
 

@@ -1,7 +1,9 @@
--- A step that spares a key leaves the value that was last written there, so one's own write is found behind such steps.
-use Rattle.std.proofs.Common.{◌≡◌, ℕ, ◌∙◌, Bool, true, false, List, [], ◌∷◌, ◌++◌, Option, Some, None, Result, Ok, append_assoc, ap, refl, subst, sym}
-use Rattle.std.proofs.Common.{if◌then◌else◌}
+-- A step that spares a key leaves the value that was last written there, so one's own write is found behind such steps. What is hidden is not found.
+use Rattle.std.proofs.Common.{◌≡◌, ◌≤◌, ℕ, ◌∙◌, ◌||◌, Bool, true, false, List, [], ◌∷◌, ◌++◌, Option, Some, None, Result, Ok, append_assoc, ap, refl, subst}
+use Rattle.std.proofs.Common.{sym}
+use Rattle.std.proofs.Common.{arith, if◌then◌else◌, max, nat_lt, ltb-false}
 use Rattle.std.specs.Cmp.{IsEquivalence}
+use Rattle.std.proofs.lemmas.Bool.{or_parts}
 use Rattle.std.specs.Option.{option_map}
 use Rattle.moka_common.specs.Keys.{Keys}
 use Rattle.moka_common.specs.Settings.{Settings}
@@ -11,12 +13,17 @@ use Rattle.moka_sync_model.specs.declared.ticket.Ticket.{Ticket}
 use Rattle.moka_sync_model.specs.Phase.{Phase, ReadApply}
 use Rattle.moka_sync_model.specs.Ticket.{same_ticket}
 use Rattle.moka_row.specs.Visits.{GoesOn, at}
-use Rattle.moka_history.specs.LastWrite.{IsCurrent, LastWrite, is_removed, is_written, known_after, known_at, last_write, used_if}
+use Rattle.moka_common.specs.Moment.{idle_expired, live_expired}
+use Rattle.moka_common.specs.Policy.{Policy}
+use Rattle.moka_common.specs.Settings.{idle_nanos, live_nanos}
+use Rattle.moka_history.specs.LastWrite.{IsCurrent, LastWrite, is_over, is_removed, is_written, known_after, known_at, last_write, used_if}
 use Rattle.moka_history.specs.Steps.{Act, Inserts, Invalidates, Step, Takes, Touches, Turns, acts}
 use Rattle.moka_locks.specs.History.{Every, Knows, Log, place_of, rest, steps}
+use Rattle.moka_locks.specs.Moments as moments
+use Rattle.moka_locks.specs.Moments.{Appends, latest}
 use Rattle.moka_locks.specs.Tells as tells
 use Rattle.moka_locks.specs.Tells.{TellsClone}
-use Rattle.moka_sync.specs.Own.{FindsFromNote, FindsOwn, Spares}
+use Rattle.moka_sync.specs.Own.{FindsFromNote, FindsOwn, FindsSince, Spares}
 
 -- an answer that memory was not refused for
 abbrev answered : {V : Type 0} → Option V → Result (Option V) MemoryError
@@ -37,6 +44,30 @@ module _ {V : Type 0} where
   value_at : (p : Phase) (known : Option (LastWrite V)) → value_of (known_at p known) ≡ value_of known
   value_at (ReadApply work (Hit t moment)) known = value_used t moment known
   value_at p known = refl
+
+-- a longer list of moments has no earlier latest one
+latest_grows : (since seen : List ℕ) → latest seen ≤ latest (since ++ seen)
+latest_grows [] seen = omega arith
+latest_grows (moment ∷ since) seen = omega (arith, latest_grows since seen)
+
+pub latest_since : {mid after : List ℕ} → moments.GoesOn mid after → latest mid ≤ latest after
+latest_since {mid = mid} goes_on = subst (λ l. latest mid ≤ latest l) (sym goes_on.1) (latest_grows goes_on.0 mid)
+
+-- the latest moment that was seen since an invalidation is no earlier than its
+pub since_own : {before : List ℕ} {moment : ℕ} {mid after : List ℕ} → Appends before moment mid → moments.GoesOn mid after → moment ≤ latest after
+since_own {moment = moment} {mid = mid} {after = after} own goes_on =
+    let grown : latest mid ≤ latest after = latest_since goes_on in
+    let first : latest mid ≡ max (latest own.log) moment = ap latest own.last in
+    omega (arith, grown, first)
+
+-- what counts still was neither written nor used before the moment that hides
+not_hidden : {V : Type 0} (policy : Policy) (valid_after now : ℕ) (write : LastWrite V) → is_over policy valid_after now write ≡ false
+    → (valid_after ≤ write.written) × (valid_after ≤ write.used)
+not_hidden policy valid_after now write counts =
+    let hides = nat_lt write.used valid_after || nat_lt write.written valid_after in
+    let parts = or_parts (idle_expired (idle_nanos policy) write.used now || live_expired (live_nanos policy) write.written now) hides counts in
+    let both = or_parts (nat_lt write.used valid_after) (nat_lt write.written valid_after) parts.1 in
+    (ltb-false write.written valid_after both.1, ltb-false write.used valid_after both.0)
 
 module _ {K V S : Type 0} (keys : Keys K S) where
   spared : (act : Act K V) (key : K) (known : Option (LastWrite V)) → is_written keys.eq act key ≡ false → is_removed keys.eq act key ≡ false
@@ -68,10 +99,10 @@ module _ {K V S : Type 0} (keys : Keys K S) where
       ∙ ap (λ b. value_of (if b then Some (record { value = value; written = now; used = now; ticket = t }) else last_write keys.eq key (acts past)))
       (laws.refl key)
 
-  module _ (settings : Settings S) {is_clone : V → V → Type 0} {w x : Knows K V S} {key : K} {now : ℕ} where
+  module _ (settings : Settings S) {is_clone : V → V → Type 0} {w x : Knows K V S} {key : K} {now valid_after : ℕ} where
     -- what is found behind one's own write
     pub finds_own : (laws : IsEquivalence keys.eq) (v : Knows K V S) (weighs : K → V → ℕ → Type 0) (value : V) (found : Option V)
-        → tells.Inserts keys settings weighs v key value now (Ok tt) w → tells.Gets keys settings is_clone w key now (Ok found) x
+        → tells.Inserts keys settings weighs v key value now (Ok tt) w → tells.Gets keys settings is_clone w key now valid_after (Ok found) x
         → FindsOwn keys settings is_clone v key value found x
     finds_own laws v weighs value found (t, puts, stood) gets =
         let one = puts.made.made in
@@ -97,28 +128,48 @@ module _ {K V S : Type 0} (keys : Keys K S) where
         by None told copy is last seen = absurd (cc)
         by (Some c) (y, found_is, clone) copy is {past = past} last seen =
             let same : c ≡ copy = cc in
-            let current = subst (λ log. IsCurrent keys.eq settings.policy gets.valid_after now (acts (steps (rest log))) key y) seen (gets.hit y found_is) in
+            let current = subst (λ log. IsCurrent keys.eq settings.policy valid_after now (acts (steps (rest log))) key y) seen (gets.hit y found_is) in
             let both : Some current.0.value ≡ Some value = sym (ap value_of current.1) ∙ last in
             let here : current.0.value ≡ value = cc in
             subst (λ z. is_clone z copy) (sym current.2 ∙ here) (subst (is_clone y) same clone)
 
     -- what is found once a note was taken in
     pub finds_from_note : {found : Option V} {told : Log K V S} → GoesOn told (at w.seen (place_of keys settings key))
-        → tells.Gets keys settings is_clone w key now (Ok found) x → FindsFromNote keys settings is_clone told key now found
+        → tells.Gets keys settings is_clone w key now valid_after (Ok found) x → FindsFromNote keys settings is_clone told key now valid_after found
     finds_from_note {found = found} {told = told} goes_on gets =
         let i = place_of keys settings key in
         let m = gets.made.made in
         let past : rest (at x.seen i) ≡ (m.since ++ goes_on.0) ++ told =
         ap rest m.seen ∙ (ap (λ log. m.since ++ log) goes_on.1 ∙ sym (append_assoc m.since goes_on.0 told)) in
-        record { since = m.since ++ goes_on.0; valid_after = gets.valid_after; current = λ copy is. by found gets.told copy is past }
+        record { since = m.since ++ goes_on.0; current = λ copy is. by found gets.told copy is past }
       where
         by : (f : Option V) → TellsClone is_clone (option_map (λ g. g.0) gets.found) (answered f) → (copy : V) → f ≡ Some copy
             → {past : Log K V S} → rest (at x.seen (place_of keys settings key)) ≡ past
-            → (value : V) × is_clone value copy × IsCurrent keys.eq settings.policy gets.valid_after now (acts (steps past)) key value
+            → (value : V) × is_clone value copy × IsCurrent keys.eq settings.policy valid_after now (acts (steps past)) key value
         by None told copy is past = absurd (cc)
         by (Some c) (y, found_is, clone) copy is past =
             let same : c ≡ copy = cc in (
               y,
               subst (is_clone y) same clone,
-              subst (λ log. IsCurrent keys.eq settings.policy gets.valid_after now (acts (steps log)) key y) past (gets.hit y found_is),
+              subst (λ log. IsCurrent keys.eq settings.policy valid_after now (acts (steps log)) key y) past (gets.hit y found_is),
+            )
+
+    -- what is found behind one's own invalidation of all
+    pub finds_since : {moment : ℕ} {found : Option V} → moment ≤ valid_after → tells.Gets keys settings is_clone w key now valid_after (Ok found) x
+        → FindsSince keys settings is_clone moment key found x
+    finds_since {moment = moment} {found = found} after gets copy is = by found gets.told is
+      where
+        by : (f : Option V) → TellsClone is_clone (option_map (λ g. g.0) gets.found) (answered f) → f ≡ Some copy
+            → (write : LastWrite V) × (last_write keys.eq key (acts (steps (rest (at x.seen (place_of keys settings key))))) ≡ Some write)
+            × is_clone write.value copy × (moment ≤ write.written) × (moment ≤ write.used)
+        by None told is = absurd (cc)
+        by (Some c) (y, found_is, clone) is =
+            let same : c ≡ copy = cc in
+            let current = gets.hit y found_is in
+            let late = not_hidden settings.policy valid_after now current.0 current.3 in (
+              current.0,
+              current.1,
+              subst (λ z. is_clone z copy) (sym current.2) (subst (is_clone y) same clone),
+              omega (arith, after, late.0),
+              omega (arith, after, late.1),
             )

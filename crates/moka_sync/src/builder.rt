@@ -1,8 +1,7 @@
 //! The builder of caches that threads share.
 ghost use Rattle.std.specs.Prelude.{◌≡◌, ◌∷◌, [], true, None, Some, IfErr, IfOk};
 ghost use Rattle.moka_sync.specs.Builder.{ArePartsOf, IsBuilt, IsLegal, new_builder, refusal_of};
-ghost use Rattle.atomic_table.specs.Seated.{TableId};
-ghost use Rattle.moka_locks.specs.Cache.{new_cache};
+ghost use Rattle.moka_locks.specs.Cache.{CacheId, new_cache};
 ghost use Rattle.moka_sync_model.specs.Published.{opening};
 
 mod debug;
@@ -219,7 +218,7 @@ impl<K: Eq + Hash + Drop, V: Drop, W: Drop, A: Allocator + Clone + Drop, P> Cach
     A,
     P,
 > {
-    /// Builds the core, with this hash state. It is refused if a duration is above 1000 years, if `initial_capacity` is too large, or if memory is refused.
+    /// Builds the core, with this hash state. It fails if a duration is above 1000 years, if `initial_capacity` is too large, or if memory is refused.
     pub fn build_core<S: BuildHasher + Drop>(
         self,
         hash_state: S,
@@ -239,7 +238,7 @@ impl<
     A: Allocator + Clone + Drop,
     P: PairRule<K, V>,
 > CacheBuilder<K, V, W, A, P> {
-    /// Builds the cache with the default hash state. It is refused as `build_with_hasher` is.
+    /// Builds the cache with the default hash state. It fails as `build_with_hasher` does.
     pub fn build(self) -> Result<Cache<K, V, FixedState, P, W, A>, BuildError>
         ensures legal { IfOk result (λ cache. IsLegal self) }
         ensures policy { IfOk result (λ cache. cache.settings.policy ≡ self.policy) }
@@ -249,13 +248,13 @@ impl<
         self.build_with_hasher(FixedState::new())
     }
 
-    /// Builds the cache with this hash state. It is refused if a duration is above 1000 years, if `initial_capacity` is too large, or if memory is refused.
+    /// Builds the cache with this hash state. It fails if a duration is above 1000 years, if `initial_capacity` is too large, or if memory is refused.
     pub fn build_with_hasher<S: BuildHasher + Drop>(
         self,
         hash_state: S,
     ) -> Result<Cache<K, V, S, P, W, A>, BuildError>
         ensures legal { IfOk result (λ cache. IsLegal self) }
-        ensures cache { IfOk result (λ cache. (id : TableId) × (cache ≡ new_cache
+        ensures cache { IfOk result (λ cache. (id : CacheId) × (cache ≡ new_cache
             (record { hash_state = hash_state; policy = self.policy; is_weighed = self.is_weighed }) self.weigher None id)) }
         ensures err { IfErr result (λ error. error ≡ refusal_of self) }
     {
@@ -263,13 +262,13 @@ impl<
         Ok(Cache::from_parts(alloc, parts, None)?)
     }
 
-    /// Builds the cache with this hash state, and a pass for its published counts. It is refused as `build_with_hasher` is.
+    /// Builds the cache with this hash state, and a pass for its published counts. It fails as `build_with_hasher` does.
     pub fn build_counted<S: BuildHasher + Drop>(
         self,
         hash_state: S,
     ) -> Result<(Cache<K, V, S, P, W, A>, CountPass), BuildError>
         ensures legal { IfOk result (λ built. IsLegal self) }
-        ensures cache { IfOk result (λ built. (id : TableId) × (built.0 ≡ new_cache
+        ensures cache { IfOk result (λ built. (id : CacheId) × (built.0 ≡ new_cache
             (record { hash_state = hash_state; policy = self.policy; is_weighed = self.is_weighed }) self.weigher (Some built.1.counts) id)) }
         ensures pass { IfOk result (λ built. built.1.seen ≡ opening ∷ []) }
         ensures err { IfErr result (λ error. error ≡ refusal_of self) }

@@ -7,7 +7,7 @@ ghost use Rattle.moka_sync_model.specs.declared.constants.TheConstants.{CALLER, 
 ghost use Rattle.moka_sync_model.specs.WholeCall.{CallsContains, CallsInsert, CallsInvalidate, CallsInvalidateAll, CallsSync};
 ghost use Rattle.moka_sync_model.specs.declared.event.Reply.TheVariants as reply;
 ghost use Rattle.moka_sync.specs.Builder.{new_builder};
-ghost use Rattle.moka_locks.specs.Cache.{new_cache};
+ghost use Rattle.moka_locks.specs.Cache.{CacheId, new_cache};
 ghost use Rattle.moka_locks.specs.Charged.{counts_of};
 ghost use Rattle.moka_guards.specs.Log.{IsChain, IsSuffix};
 ghost use Rattle.moka_sync_model.specs.Published.{opening};
@@ -18,7 +18,6 @@ ghost use Rattle.moka_locks.specs.Snapshot.{AreCopies};
 ghost use Rattle.moka_row.specs.Visits.{guest, newcomer};
 ghost use Rattle.moka_locks.specs.Tells.{ByGuest, Gets, Inserts, Looks, Removes};
 ghost use Rattle.moka_sync_model.specs.declared.ticket.Ticket.{Ticket};
-ghost use Rattle.atomic_table.specs.Seated.{TableId};
 ghost use Rattle.moka_sync_model.specs.Steps.{AnswersGet, AnswersRemove, insert_reply, pends_by};
 
 use crate::builder::CacheBuilder;
@@ -187,7 +186,7 @@ impl<
         publisher: Option<Publisher<A>>,
     ) -> Result<Self, OutOfMemory>
         requires { IfSome publisher (λ p. p.published ≡ opening ∷ []) }
-        ensures { IfOk result (λ cache. (id : TableId) × (cache ≡ new_cache
+        ensures { IfOk result (λ cache. (id : CacheId) × (cache ≡ new_cache
             (record { hash_state = parts.hash_state; policy = parts.policy; is_weighed = parts.is_weighed }) parts.weigher (counts_of publisher) id)) }
     {
         let inner = Inner::new(alloc.clone()?, parts, publisher)?;
@@ -247,7 +246,7 @@ impl<
     }
 
     /// Returns a snapshot of the unexpired pairs, shard by shard. The pairs of a shard are those of one moment, and the snapshot holds no lock. It doesn't
-    /// count as a read. It is refused for want of memory.
+    /// count as a read. It fails if memory is refused.
     pub fn iter<R: Wait>(&self, rt: &R, now: Instant) -> Result<Iter<K, V, A>, OutOfMemory>
         ensures ruled { IfOk result (λ pairs. PairsMeet P.holds pairs) }
         ensures once { IfOk result (λ pairs. IsDistinct K.eq (map (λ p. p.0) pairs)) }
@@ -274,13 +273,13 @@ impl<
     pub fn contains_key<R: Wait>(&self, rt: &R, key: &K, now: Instant) -> bool
         ensures call { CallsByGuest self.now (CallsContains (locked_allows (keys_by K.Hash S.BuildHasher S.Hasher.Hasher) P.holds W.weighs)
             locked_decides (pends_by locked_caller) CALLER key.now now (reply.Bool result)) }
-        ensures made { ByGuest {K = K} {V = V} {S = S} self.now.settings (λ old new. Looks (keys_by K.Hash S.BuildHasher S.Hasher.Hasher)
-            self.now.settings old key.now now result new) }
+        ensures made { ByGuest {K = K} {V = V} {S = S} self.now.settings (λ old new. (valid_after : ℕ) × Looks (keys_by K.Hash S.BuildHasher S.Hasher.Hasher)
+            self.now.settings old key.now now valid_after result new) }
     {
         steps::contains_key(rt, &mut Locked::new(self.inner.get()), key, now)
     }
 
-    /// Puts a value at a key, in place of the one that is there. The pair has to meet the rule. It is refused if memory is, or if the key's
+    /// Puts a value at a key, in place of the one that is there. The pair has to meet the rule. It fails if memory is refused, or if the key's
     /// shard has no ticket left, and then the cache is as it was.
     pub fn insert<R: Wait>(&self, rt: &R, key: K, value: V, now: Instant) -> Result<(), InsertError>
         requires ruled { P.holds key value }
@@ -328,8 +327,8 @@ impl<
     pub fn get<R: Wait>(&self, rt: &R, key: &K, now: Instant) -> Result<Option<V>, OutOfMemory>
         ensures call { CallsByGuest self.now (AnswersGet (locked_allows (keys_by K.Hash S.BuildHasher S.Hasher.Hasher) P.holds W.weighs)
             locked_decides locked_caller V.is_clone V.is_infallible key.now now result) }
-        ensures made { ByGuest {K = K} {V = V} {S = S} self.now.settings (λ old new. Gets (keys_by K.Hash S.BuildHasher S.Hasher.Hasher)
-            self.now.settings V.is_clone old key.now now result new) }
+        ensures made { ByGuest {K = K} {V = V} {S = S} self.now.settings (λ old new. (valid_after : ℕ) × Gets (keys_by K.Hash S.BuildHasher S.Hasher.Hasher)
+            self.now.settings V.is_clone old key.now now valid_after result new) }
 
         // It is a clone of a value that meets the rule with the key.
         ensures ruled { IfOk result (λ found. IfSome found (λ copy. (value : V) × P.holds key.now value × V.is_clone value copy)) }
@@ -346,8 +345,8 @@ impl<
     ) -> Result<Option<V>, OutOfMemory>
         ensures call { CallsByGuest self.now (AnswersGet (locked_allows (keys_by K.Hash S.BuildHasher S.Hasher.Hasher) P.holds W.weighs)
             locked_decides locked_caller V.is_clone V.is_infallible key.now now result) }
-        ensures made { ByGuest {K = K} {V = V} {S = S} self.now.settings (λ old new. Gets (keys_by K.Hash S.BuildHasher S.Hasher.Hasher)
-            self.now.settings V.is_clone old key.now now result new) }
+        ensures made { ByGuest {K = K} {V = V} {S = S} self.now.settings (λ old new. (valid_after : ℕ) × Gets (keys_by K.Hash S.BuildHasher S.Hasher.Hasher)
+            self.now.settings V.is_clone old key.now now valid_after result new) }
         ensures ruled { IfOk result (λ found. IfSome found (λ copy. (value : V) × P.holds key.now value × V.is_clone value copy)) }
     {
         self.get(rt, key, now)
@@ -358,8 +357,8 @@ impl<
     pub fn remove<R: Wait>(&self, rt: &R, key: &K, now: Instant) -> Result<Option<V>, OutOfMemory>
         ensures call { CallsByGuest self.now (AnswersRemove (locked_allows (keys_by K.Hash S.BuildHasher S.Hasher.Hasher) P.holds W.weighs)
             locked_decides locked_caller V.is_clone V.is_infallible key.now now result) }
-        ensures made { ByGuest {K = K} {V = V} {S = S} self.now.settings (λ old new. Removes (keys_by K.Hash S.BuildHasher S.Hasher.Hasher)
-            self.now.settings V.is_clone old key.now now result new) }
+        ensures made { ByGuest {K = K} {V = V} {S = S} self.now.settings (λ old new. (valid_after : ℕ) × Removes (keys_by K.Hash S.BuildHasher S.Hasher.Hasher)
+            self.now.settings V.is_clone old key.now now valid_after result new) }
 
         // It is a clone of a value that meets the rule with the key.
         ensures ruled { IfOk result (λ found. IfSome found (λ copy. (value : V) × P.holds key.now value × V.is_clone value copy)) }

@@ -6,7 +6,7 @@ use std::hash::{BuildHasher, Hash};
 use std::marker::Model;
 
 /// A note of what a session has seen, which may cross threads: a session that takes it in (`Session::learn`) goes on from that history. A clause sees which
-/// cache it is of, and of each shard a history.
+/// cache it is of, of each shard a history, and the moments of the invalidations of all that the session had seen.
 #[derive(Drop)]
 pub struct Note<
     K: Eq + Hash + Drop,
@@ -30,7 +30,11 @@ impl<
 
     ghost Value = { NoteValue K V S };
 
-    ghost view = { λ n. record { id = n.teller.table_id; seen = n.teller.me.0.seen } };
+    ghost view = { λ n. record {
+      id = record { shards = n.teller.shards.table_id; moments = n.teller.moments.table_id };
+      seen = n.teller.shards.me.0.seen;
+      moments = n.teller.moments.me.0.seen;
+    } };
 
-    ghost invariant = { λ n. n.teller.me.1 ≡ [] };
+    ghost invariant = { λ n. (n.teller.shards.me.1 ≡ []) × (n.teller.moments.me.1 ≡ []) };
 }

@@ -1,8 +1,9 @@
-//! Sessions: who calls a cache that threads share, and knows what it called.
+//! Sessions: the calls of one caller of the cache that threads share, and what the caller has seen by then.
 ghost use Rattle.std.specs.Prelude.{◌≡◌, Option, IfOk, IfSome};
 ghost use Rattle.moka_common.specs.Keys.{keys_by};
 ghost use Rattle.moka_history.specs.Steps.{Invalidates};
 ghost use Rattle.moka_locks.specs.History.{Makes, place_of};
+ghost use Rattle.moka_locks.specs.Moments.{Appends, GoesOn, latest};
 ghost use Rattle.moka_locks.specs.Tells.{Gets, Inserts, Looks, Removes};
 ghost use Rattle.moka_row.specs.Kept.{Hears};
 ghost use Rattle.moka_sync_model.specs.declared.ticket.Ticket.{Ticket};
@@ -28,9 +29,9 @@ use std::sync::Wait;
 
 /// A caller's place in the histories of the shards of a cache, by `Cache::session`.
 ///
-/// A clause sees its cache and what it knows: its number, of each shard a history that it has seen, and its own visits there. Each call comes, in the
-/// history of the key's shard, after all that the session had seen there. The calls of a session that learned a note (`note` and `learn`) come after what
-/// that had seen, too.
+/// A clause sees its cache and what it knows: its number, of each shard a history that it has seen, its own visits there, and the moments of the
+/// invalidations of all that it has seen. Each call comes, in the history of the key's shard, after all that the session had seen there, and what those
+/// moments hide is not found. The calls of a session that learned a note (`note` and `learn`) come after what that had seen, too.
 ///
 /// ```
 /// let mut session = cache.session()?;
@@ -74,15 +75,16 @@ impl<
     W: Drop,
     A: Allocator + Clone + Drop,
 > Model for Session<K, V, S, P, W, A> {
-    ghost use Rattle.std.specs.Prelude.{◌≡◌};
+    ghost use Rattle.std.specs.Prelude.{◌≡◌, []};
     ghost use Rattle.moka_row.specs.Visits.{IsIdle};
     ghost use Rattle.moka_sync.specs.Session.{Session as SessionValue};
 
     ghost Value = { SessionValue K V S W };
 
-    ghost view = { λ s. record { cache = s.inner; knows = s.caller.me.0 } };
+    ghost view = { λ s. record { cache = s.inner; knows = s.caller.shards.me.0; moments = s.caller.moments.me.0.seen } };
 
-    ghost invariant = { λ s. (s.caller.table_id ≡ s.inner.id) × IsIdle s.inner.settings s.caller.me };
+    ghost invariant = { λ s. (s.caller.shards.table_id ≡ s.inner.id.shards) × IsIdle s.inner.settings s.caller.shards.me
+        × (s.caller.moments.table_id ≡ s.inner.id.moments) × (s.caller.moments.me.1 ≡ []) };
 }
 
 impl<
@@ -96,7 +98,7 @@ impl<
     /// Returns a note of what the session has seen so far, for another one to learn.
     pub fn note(&mut self) -> Note<K, V, S, P, A>
         ensures same { self.new ≡ self.old }
-        ensures note { result ≡ record { id = self.old.cache.id; seen = self.old.knows.seen } }
+        ensures note { result ≡ record { id = self.old.cache.id; seen = self.old.knows.seen; moments = self.old.moments } }
     {
         let inner = self.inner.get();
         Note {
@@ -109,6 +111,7 @@ impl<
         requires { note.id ≡ self.old.cache.id }
         ensures same { self.new.cache ≡ self.old.cache }
         ensures told { Hears self.old.knows note.seen self.new.knows }
+        ensures moments { GoesOn self.old.moments self.new.moments × GoesOn note.moments self.new.moments }
     {
         let inner = self.inner.get();
         inner.learn(&mut self.caller, note.teller);
@@ -126,7 +129,9 @@ impl<
     /// Returns `true` if the key has an unexpired value. It doesn't count as a read.
     pub fn contains_key<R: Wait>(&mut self, rt: &R, key: &K, now: Instant) -> bool
         ensures same { self.new.cache ≡ self.old.cache }
-        ensures made { Looks (keys_by K.Hash S.BuildHasher S.Hasher.Hasher) self.old.cache.settings self.old.knows key.now now result self.new.knows }
+        ensures made { Looks (keys_by K.Hash S.BuildHasher S.Hasher.Hasher) self.old.cache.settings self.old.knows key.now now (latest self.new.moments) result
+            self.new.knows }
+        ensures moments { GoesOn self.old.moments self.new.moments }
     {
         let inner = self.inner.get();
         let mut call = Locked::by(inner, replace(&mut self.caller, inner.come()));
@@ -135,8 +140,8 @@ impl<
         found
     }
 
-    /// Puts a value at a key, in place of the one that is there. The pair has to meet the rule. It is refused if memory is, or if the key's shard has no
-    /// ticket left, and then the entries are as they were.
+    /// Puts a value at a key, in place of the one that is there. The pair has to meet the rule. It fails if memory is refused, or if the key's shard has
+    /// no ticket left, and then the entries are as they were.
     pub fn insert<R: Wait>(
         &mut self,
         rt: &R,
@@ -149,6 +154,7 @@ impl<
         ensures same { self.new.cache ≡ self.old.cache }
         ensures made { Inserts (keys_by K.Hash S.BuildHasher S.Hasher.Hasher) self.old.cache.settings (W.weighs self.old.cache.weigher) self.old.knows
             key value now result self.new.knows }
+        ensures moments { self.new.moments ≡ self.old.moments }
     {
         let inner = self.inner.get();
         let Some((key, value)) = stored(inner.alloc(), key, value) else {
@@ -165,10 +171,23 @@ impl<
         ensures same { self.new.cache ≡ self.old.cache }
         ensures made { (left : Option Ticket) × Makes (keys_by K.Hash S.BuildHasher S.Hasher.Hasher) self.old.cache.settings self.old.knows
             (place_of (keys_by K.Hash S.BuildHasher S.Hasher.Hasher) self.old.cache.settings key.now) (Invalidates key.now left) self.new.knows }
+        ensures moments { self.new.moments ≡ self.old.moments }
     {
         let inner = self.inner.get();
         let mut call = Locked::by(inner, replace(&mut self.caller, inner.come()));
         steps::invalidate(rt, &mut call, key, now);
+        self.caller = call.into_caller();
+    }
+
+    /// Hides each entry whose last write or last read was before this moment; one of the two is enough. Those of the moment itself stay. It takes no lock.
+    /// The session's next calls find none of the hidden ones, and neither do those of a session that learns a note of it.
+    pub fn invalidate_all(&mut self, now: Instant)
+        ensures same { (self.new.cache ≡ self.old.cache) × (self.new.knows ≡ self.old.knows) }
+        ensures moments { Appends self.old.moments now self.new.moments }
+    {
+        let inner = self.inner.get();
+        let mut call = Locked::by(inner, replace(&mut self.caller, inner.come()));
+        steps::invalidate_all(&mut call, now);
         self.caller = call.into_caller();
     }
 }
@@ -184,7 +203,9 @@ impl<
     /// Returns a clone of a key's unexpired value, made while no lock is held.
     pub fn get<R: Wait>(&mut self, rt: &R, key: &K, now: Instant) -> Result<Option<V>, OutOfMemory>
         ensures same { self.new.cache ≡ self.old.cache }
-        ensures made { Gets (keys_by K.Hash S.BuildHasher S.Hasher.Hasher) self.old.cache.settings V.is_clone self.old.knows key.now now result self.new.knows }
+        ensures made { Gets (keys_by K.Hash S.BuildHasher S.Hasher.Hasher) self.old.cache.settings V.is_clone self.old.knows key.now now
+            (latest self.new.moments) result self.new.knows }
+        ensures moments { GoesOn self.old.moments self.new.moments }
 
         // It is a clone of a value that meets the rule with the key.
         ensures ruled { IfOk result (λ found. IfSome found (λ copy. (value : V) × P.holds key.now value × V.is_clone value copy)) }
@@ -205,8 +226,9 @@ impl<
         now: Instant,
     ) -> Result<Option<V>, OutOfMemory>
         ensures same { self.new.cache ≡ self.old.cache }
-        ensures made { Removes (keys_by K.Hash S.BuildHasher S.Hasher.Hasher) self.old.cache.settings V.is_clone self.old.knows key.now now result
-            self.new.knows }
+        ensures made { Removes (keys_by K.Hash S.BuildHasher S.Hasher.Hasher) self.old.cache.settings V.is_clone self.old.knows key.now now
+            (latest self.new.moments) result self.new.knows }
+        ensures moments { GoesOn self.old.moments self.new.moments }
 
         // It is a clone of a value that meets the rule with the key.
         ensures ruled { IfOk result (λ found. IfSome found (λ copy. (value : V) × P.holds key.now value × V.is_clone value copy)) }

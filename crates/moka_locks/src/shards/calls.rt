@@ -4,13 +4,15 @@ ghost use Rattle.std.specs.List.{All, IsDistinct};
 ghost use Rattle.moka_common.specs.Keys.{keys_by};
 ghost use Rattle.moka_history.specs.Steps.{Copies, Gets, Invalidates, Looks, Takes};
 ghost use Rattle.moka_locks.specs.History.{Makes, Puts, place_of};
+ghost use Rattle.moka_locks.specs.Moments.{GoesOn, latest};
 ghost use Rattle.moka_row.specs.Visits.{IsIdle};
 ghost use Rattle.moka_shard.specs.Rule.{PairsMeet};
 ghost use Rattle.moka_sync_model.specs.declared.constants.TheConstants.{SHARDS};
 ghost use Rattle.moka_sync_model.specs.declared.ticket.Ticket.{Ticket};
 ghost use Rattle.moka_sync_model.specs.Reply.{IsHanded};
 
-use crate::account::Caller;
+use crate::account::ShardSeat;
+use crate::moments::Witness;
 use crate::shards::Shards;
 use moka_common::error::{InsertError, OutOfMemory};
 use moka_common::shared::Shared;
@@ -38,31 +40,34 @@ impl<
     pub(crate) fn get<R: Wait>(
         &self,
         rt: &R,
-        me: &mut Caller<K, V, S, P, A>,
+        me: &mut ShardSeat<K, V, S, P, A>,
+        witness: &mut Witness,
         key: &K,
         hash: u64,
         now: Instant,
     ) -> Result<(Option<(Shared<V, A>, Ticket)>, usize), OutOfMemory>
         requires table { me.old.table_id ≡ self.now.table.shared.table_id }
+        requires moments { witness.old.table_id ≡ self.now.moments.table.shared.table_id }
         requires idle { IsIdle self.now.table.shared.key me.old.me }
         requires hashed { hash ≡ (keys_by K.Hash S.BuildHasher S.Hasher.Hasher).hash_of self.now.table.shared.key.hash_state key.now }
         ensures same { me.new.table_id ≡ me.old.table_id }
+        ensures seat { (witness.new.table_id ≡ witness.old.table_id) × (witness.new.me.1 ≡ witness.old.me.1) }
+        ensures moments { GoesOn witness.old.me.0.seen witness.new.me.0.seen }
         ensures idle { IsIdle self.now.table.shared.key me.new.me }
         ensures ruled { IfOk result (λ found. IfSome found.0 (λ f. P.holds key.now f.0)) }
-        ensures made { IfOk result (λ answer. (valid_after : ℕ)
-            × Makes (keys_by K.Hash S.BuildHasher S.Hasher.Hasher) self.now.table.shared.key me.old.me.0
-            (place_of (keys_by K.Hash S.BuildHasher S.Hasher.Hasher) self.now.table.shared.key key.now) (Gets key.now now valid_after answer.0) me.new.me.0) }
-        ensures refused { OnErr result ((valid_after : ℕ) × (found : V × Ticket)
-            × Makes (keys_by K.Hash S.BuildHasher S.Hasher.Hasher) self.now.table.shared.key me.old.me.0
-            (place_of (keys_by K.Hash S.BuildHasher S.Hasher.Hasher) self.now.table.shared.key key.now) (Gets key.now now valid_after (Some found))
-            me.new.me.0) }
+        ensures made { IfOk result (λ answer. Makes (keys_by K.Hash S.BuildHasher S.Hasher.Hasher) self.now.table.shared.key me.old.me.0
+            (place_of (keys_by K.Hash S.BuildHasher S.Hasher.Hasher) self.now.table.shared.key key.now)
+            (Gets key.now now (latest witness.new.me.0.seen) answer.0) me.new.me.0) }
+        ensures refused { OnErr result ((found : V × Ticket) × Makes (keys_by K.Hash S.BuildHasher S.Hasher.Hasher) self.now.table.shared.key me.old.me.0
+            (place_of (keys_by K.Hash S.BuildHasher S.Hasher.Hasher) self.now.table.shared.key key.now)
+            (Gets key.now now (latest witness.new.me.0.seen) (Some found)) me.new.me.0) }
     {
         let row = &self.table.shared;
         let i = self.place(hash);
         lock(rt, row, me, i);
         let shard = me.slot_mut(row, i);
         let before = Snapshot::of(&*shard);
-        let valid_after = self.valid_after();
+        let valid_after = self.moments.load(witness);
         let found = shard.get(key, hash, &self.settings, valid_after, now);
         leave::<_, _, _, _, _, Brand>(row, me, i, (before, key, now, valid_after));
         found
@@ -73,16 +78,21 @@ impl<
     pub(crate) fn contains_key<R: Wait>(
         &self,
         rt: &R,
-        me: &mut Caller<K, V, S, P, A>,
+        me: &mut ShardSeat<K, V, S, P, A>,
+        witness: &mut Witness,
         key: &K,
         now: Instant,
     ) -> bool
         requires table { me.old.table_id ≡ self.now.table.shared.table_id }
+        requires moments { witness.old.table_id ≡ self.now.moments.table.shared.table_id }
         requires idle { IsIdle self.now.table.shared.key me.old.me }
         ensures same { me.new.table_id ≡ me.old.table_id }
+        ensures seat { (witness.new.table_id ≡ witness.old.table_id) × (witness.new.me.1 ≡ witness.old.me.1) }
+        ensures moments { GoesOn witness.old.me.0.seen witness.new.me.0.seen }
         ensures idle { IsIdle self.now.table.shared.key me.new.me }
-        ensures made { (valid_after : ℕ) × Makes (keys_by K.Hash S.BuildHasher S.Hasher.Hasher) self.now.table.shared.key me.old.me.0
-            (place_of (keys_by K.Hash S.BuildHasher S.Hasher.Hasher) self.now.table.shared.key key.now) (Looks key.now now valid_after result) me.new.me.0 }
+        ensures made { Makes (keys_by K.Hash S.BuildHasher S.Hasher.Hasher) self.now.table.shared.key me.old.me.0
+            (place_of (keys_by K.Hash S.BuildHasher S.Hasher.Hasher) self.now.table.shared.key key.now)
+            (Looks key.now now (latest witness.new.me.0.seen) result) me.new.me.0 }
     {
         let row = &self.table.shared;
         let hash = self.hash_of(key);
@@ -90,7 +100,7 @@ impl<
         lock(rt, row, me, i);
         let shard = me.slot_mut(row, i);
         let before = Snapshot::of(&*shard);
-        let valid_after = self.valid_after();
+        let valid_after = self.moments.load(witness);
         let found = shard.contains_key(key, hash, &self.settings, valid_after, now);
         leave::<_, _, _, _, _, Brand>(row, me, i, (before, key, now, valid_after, found));
         found
@@ -101,7 +111,7 @@ impl<
     pub(crate) fn insert<W: WeighShared<K, V>, R: Wait>(
         &self,
         rt: &R,
-        me: &mut Caller<K, V, S, P, A>,
+        me: &mut ShardSeat<K, V, S, P, A>,
         key: Shared<K, A>,
         value: Shared<V, A>,
         weigher: &W,
@@ -136,7 +146,7 @@ impl<
     pub(crate) fn invalidate<R: Wait>(
         &self,
         rt: &R,
-        me: &mut Caller<K, V, S, P, A>,
+        me: &mut ShardSeat<K, V, S, P, A>,
         key: &K,
     ) -> Option<Ticket>
         requires table { me.old.table_id ≡ self.now.table.shared.table_id }
@@ -162,7 +172,7 @@ impl<
     pub(crate) fn pairs<R: Wait>(
         &self,
         rt: &R,
-        me: &mut Caller<K, V, S, P, A>,
+        me: &mut ShardSeat<K, V, S, P, A>,
         i: usize,
         alloc: A,
         now: Instant,
@@ -211,23 +221,27 @@ impl<
     pub(crate) fn take<R: Wait>(
         &self,
         rt: &R,
-        me: &mut Caller<K, V, S, P, A>,
+        me: &mut ShardSeat<K, V, S, P, A>,
+        witness: &mut Witness,
         key: &K,
         now: Instant,
     ) -> Result<(Option<V>, Option<Ticket>), OutOfMemory>
         requires table { me.old.table_id ≡ self.now.table.shared.table_id }
+        requires moments { witness.old.table_id ≡ self.now.moments.table.shared.table_id }
         requires idle { IsIdle self.now.table.shared.key me.old.me }
         ensures same { me.new.table_id ≡ me.old.table_id }
+        ensures seat { (witness.new.table_id ≡ witness.old.table_id) × (witness.new.me.1 ≡ witness.old.me.1) }
+        ensures moments { GoesOn witness.old.me.0.seen witness.new.me.0.seen }
         ensures idle { IsIdle self.now.table.shared.key me.new.me }
-        ensures made { IfOk result (λ taken. (valid_after : ℕ) × (found : Option V) × IsHanded V.is_clone found taken.0
+        ensures made { IfOk result (λ taken. (found : Option V) × IsHanded V.is_clone found taken.0
             × IfSome found (λ value. P.holds key.now value)
             × Makes (keys_by K.Hash S.BuildHasher S.Hasher.Hasher) self.now.table.shared.key me.old.me.0
-            (place_of (keys_by K.Hash S.BuildHasher S.Hasher.Hasher) self.now.table.shared.key key.now) (Takes key.now now valid_after found taken.1)
-            me.new.me.0) }
-        ensures refused { OnErr result (((valid_after : ℕ) × (found : V × Ticket)
-            × Makes (keys_by K.Hash S.BuildHasher S.Hasher.Hasher) self.now.table.shared.key me.old.me.0
-            (place_of (keys_by K.Hash S.BuildHasher S.Hasher.Hasher) self.now.table.shared.key key.now) (Gets key.now now valid_after (Some found))
-            me.new.me.0) × ((value : V) × (¬ (V.is_infallible value)))) }
+            (place_of (keys_by K.Hash S.BuildHasher S.Hasher.Hasher) self.now.table.shared.key key.now)
+            (Takes key.now now (latest witness.new.me.0.seen) found taken.1) me.new.me.0) }
+        ensures refused { OnErr result (((found : V × Ticket) × Makes (keys_by K.Hash S.BuildHasher S.Hasher.Hasher) self.now.table.shared.key me.old.me.0
+            (place_of (keys_by K.Hash S.BuildHasher S.Hasher.Hasher) self.now.table.shared.key key.now)
+            (Gets key.now now (latest witness.new.me.0.seen) (Some found)) me.new.me.0)
+            × ((value : V) × (¬ (V.is_infallible value)))) }
     {
         let row = &self.table.shared;
         let hash = self.hash_of(key);
@@ -235,7 +249,7 @@ impl<
         lock(rt, row, me, i);
         let shard = me.slot_mut(row, i);
         let before = Snapshot::of(&*shard);
-        let valid_after = self.valid_after();
+        let valid_after = self.moments.load(witness);
         let taken = shard.take_clone(key, hash, &self.settings, valid_after, now);
         let told = Snapshot::of(&taken);
         let after = Snapshot::of(&*shard);

@@ -34,7 +34,7 @@ impl<
         moment: Instant,
     ) -> usize {
         let row = &self.table.shared;
-        let me = &mut self.come();
+        let me = &mut self.new_seat();
         let i = self.place(ticket.hash);
         lock(rt, row, me, i);
         let shard = me.slot_mut(row, i);
@@ -57,7 +57,7 @@ impl<
         ensures { IsTurn K V self.now.settings maintenance.old maintenance.new }
     {
         let row = &self.table.shared;
-        let me = &mut self.come();
+        let me = &mut self.new_seat();
         let i = self.place(ticket.hash);
         lock(rt, row, me, i);
         let shard = me.slot_mut(row, i);
@@ -80,7 +80,7 @@ impl<
         ensures { IsTurn K V self.now.settings (having_taken_write (Upsert ticket) maintenance.old) maintenance.new }
     {
         let row = &self.table.shared;
-        let me = &mut self.come();
+        let me = &mut self.new_seat();
         let i = self.place(ticket.hash);
         lock(rt, row, me, i);
         let shard = me.slot_mut(row, i);

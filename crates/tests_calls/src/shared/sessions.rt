@@ -1,7 +1,7 @@
 // Sessions of the cache with logs, which know the histories of its shards.
 use moka_common::time::Instant;
 use moka_sync::cache::Cache;
-use moka_sync::own::{learn_and_read, write_and_read};
+use moka_sync::own::{invalidate_and_read, learn_and_read, write_and_read};
 use std::alloc::Global;
 use std::sync::Wait;
 use std::test::Fail;
@@ -41,6 +41,29 @@ fn told<R: Wait>(rt: &R, alloc: Global) -> Result<[Option<Option<u64>>; 2], Fail
     Ok([own, other])
 }
 
+/// Hides what was written before the moment 5 in one session, and looks there, in a session that learns a note of it, and in the cache.
+fn hidden<R: Wait>(
+    rt: &R,
+    alloc: Global,
+) -> Result<(Option<Option<u64>>, Option<u64>, [bool; 3]), Fail> {
+    let cache: Cache<u64, u64> = Cache::new(alloc, 100)?;
+    let (mut hider, mut reader) = (cache.session()?, cache.session()?);
+    let now = Instant::from_nanos(6);
+    reader.insert(rt, 1, 10, Instant::from_nanos(4))?;
+    reader.insert(rt, 2, 20, Instant::from_nanos(5))?;
+    let old = invalidate_and_read(rt, &mut hider, Instant::from_nanos(5), &1, now);
+    let young = hider.remove(rt, &2, now)?;
+    hider.invalidate_all(Instant::from_nanos(3));
+    hider.insert(rt, 3, 30, Instant::from_nanos(4))?;
+    reader.learn(hider.note());
+    let left = [
+        hider.contains_key(rt, &3, now),
+        reader.contains_key(rt, &1, now),
+        cache.contains_key(rt, &3, now),
+    ];
+    Ok((old, young, left))
+}
+
 /// A session's reads and writes go to the logs: the value is renewed by a read, and expires 10 after that.
 fn renewed<R: Wait>(rt: &R, alloc: Global) -> Result<[bool; 3], Fail> {
     let cache: Cache<u64, u64> = Cache::builder(alloc)
@@ -68,6 +91,13 @@ fn a_session_finds_what_another_wrote(rt: HostRuntime) -> Result<(), Fail> {
 #[test]
 fn a_session_finds_its_own_and_what_it_was_told(rt: HostRuntime) -> Result<(), Fail> {
     assert_eq!(rt; told(&rt, rt.alloc())?, [Some(Some(70)), Some(Some(70))]);
+    Ok(())
+}
+
+#[test]
+fn a_session_hides_older_entries_from_all(rt: HostRuntime) -> Result<(), Fail> {
+    let found = hidden(&rt, rt.alloc())?;
+    assert_eq!(rt; found, (Some(None), Some(20), [false, false, false]));
     Ok(())
 }
 

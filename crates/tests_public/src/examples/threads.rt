@@ -5,6 +5,7 @@ use mini_moka::common::time::Instant;
 use mini_moka::sync::Cache;
 use mini_moka::sync::housekeeper::Housekeeper;
 use moka_examples::audit::{is_replayed, new_core, record_of_threads};
+use moka_examples::board::announced_to_threads;
 use moka_examples::calling::empty_if_due;
 use moka_examples::configuration::configured_by_threads;
 use moka_examples::metrics::watched_while_filled;
@@ -39,6 +40,13 @@ fn a_session_counts_what_leaves(rt: HostRuntime) -> Result<(), Fail> {
 #[test]
 fn readers_find_the_version_that_they_were_told_of(rt: HostRuntime) -> Result<(), Fail> {
     assert_eq!(rt; configured_by_threads(rt, rt.alloc())?, 22);
+    Ok(())
+}
+
+// Two readers were told of a notice and of the withdrawal of an older one.
+#[test]
+fn readers_find_the_notice_that_was_not_withdrawn(rt: HostRuntime) -> Result<(), Fail> {
+    assert_eq!(rt; announced_to_threads(rt, rt.alloc())?, (22, None));
     Ok(())
 }
 

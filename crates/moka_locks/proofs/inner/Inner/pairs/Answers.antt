@@ -11,6 +11,6 @@ keys_of g = keys_by (record { eq = g.K.PartialEq.eq; hash_input = g.K.Hash.hash_
 pub returns-clause-copies : goal.returns-clause-copies
 returns-clause-copies g c =
     by_guest (keys_of g) g.met.K.Eq.laws (λ pairs. pairs.items) c.pairs-pairs.result c.self.inside.shards.table.shared.key c.args.self.now.settings
-    c.come-guest.result.me.0 c.pairs-pairs.new.me.me.0 c.come-guest.ensures.new.0 c.args.number c.args.now
-    (c.self.inside.shards.planned ∙ ap (λ (v : Cache g.row.S.Denot g.row.W.Denot). v.settings) c.self.view_is) (ap (λ m. m.0) c.come-guest.ensures.new.1)
+    c.new_seat-guest.result.me.0 c.pairs-pairs.new.me.me.0 c.new_seat-guest.ensures.new.0 c.args.number c.args.now
+    (c.self.inside.shards.planned ∙ ap (λ (v : Cache g.row.S.Denot g.row.W.Denot). v.settings) c.self.view_is) (ap (λ m. m.0) c.new_seat-guest.ensures.new.1)
     c.pairs-pairs.ensures.made

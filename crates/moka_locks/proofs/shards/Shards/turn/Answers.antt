@@ -10,18 +10,19 @@ abbrev keys_of : (g : Over) → Keys g.row.K.Denot g.row.S.Denot
 keys_of g = keys_by (record { eq = g.K.PartialEq.eq; hash_input = g.K.Hash.hash_input }) g.S.BuildHasher g.S.Hasher.Hasher
 
 pub slot_mut-shard-requires : goal.slot_mut-shard-requires
-slot_mut-shard-requires g c = (c.lock.ensures.same ∙ c.come.ensures.table, first_held c.lock.ensures.got)
+slot_mut-shard-requires g c = (c.lock.ensures.same ∙ c.new_seat.ensures.table, first_held c.lock.ensures.got)
 
 -- the shard that was found
-its_shard : (g : Over) (c : After-of-after g) → Entered (keys_of g) c.args.self.now.table.shared.key c.place-i.result c.come.result.me.0 c.lock.new.me.me
+its_shard : (g : Over) (c : After-of-after g) → Entered (keys_of g) c.args.self.now.table.shared.key c.place-i.result c.new_seat.result.me.0 c.lock.new.me.me
     c.slot_mut-shard.result.now
 its_shard g c =
-    enters (keys_of g) c.args.self.now.table.shared.key c.place-i.result c.come.result.me c.lock.new.me.me c.slot_mut-shard.result.now c.lock.ensures.got (ap
-    (λ m. m.0.plan) c.come.ensures.new.1)
+    enters (keys_of g) c.args.self.now.table.shared.key c.place-i.result c.new_seat.result.me c.lock.new.me.me c.slot_mut-shard.result.now c.lock.ensures.got
+    (ap
+    (λ m. m.0.plan) c.new_seat.ensures.new.1)
     c.slot_mut-shard.ensures.value
 
 -- what the visit did, and how it is noted
-its_step : (g : Over) (c : After-of-after g) → Did (keys_of g) c.args.self.now.table.shared.key c.place-i.result c.come.result.me.0 c.lock.new.me.me
+its_step : (g : Over) (c : After-of-after g) → Did (keys_of g) c.args.self.now.table.shared.key c.place-i.result c.new_seat.result.me.0 c.lock.new.me.me
     c.slot_mut-shard.result.now
     c.turn.new.self (Turns c.args.maintenance.now c.valid_after_since-valid_after.result c.args.ticket) (step_of c.of-found.result.value
     (Turns c.of-stood.result.value c.valid_after_since-valid_after.result c.args.ticket) c.of-after.result.value ∷ [])

@@ -11,14 +11,15 @@ keys_of g = keys_by (record { eq = g.K.PartialEq.eq; hash_input = g.K.Hash.hash_
 
 pub returns-clause-call : goal.returns-clause-call
 returns-clause-call g c =
-    let is = c.new.ensures.1 ∙ ap (λ x. resting_at x (newcomer x.settings (guest c.new.ensures.0))) (c.get.ensures ∙ c.self.view_is) in
-    (c.new.ensures.0, c.invalidate.new.steps, rw (← is) c.invalidate.ensures.call)
+    let is = c.new.ensures.2 ∙ ap (λ x. resting_at x (newcomer x.settings (guest c.new.ensures.0)) c.new.ensures.1) (c.get.ensures ∙ c.self.view_is) in
+    (c.new.ensures.0, c.new.ensures.1, c.invalidate.new.steps, rw (← is) c.invalidate.ensures.call)
 
 pub returns-clause-made : goal.returns-clause-made
 returns-clause-made g c =
-    let is = c.new.ensures.1 ∙ ap (λ x. resting_at x (newcomer x.settings (guest c.new.ensures.0))) (c.get.ensures ∙ c.self.view_is) in (
+    let is = c.new.ensures.2 ∙ ap (λ x. resting_at x (newcomer x.settings (guest c.new.ensures.0)) c.new.ensures.1) (c.get.ensures ∙ c.self.view_is) in (
       c.new.ensures.0,
       c.invalidate.new.steps.knows,
       (invalidate_tells (keys_of g) g.P.PairRule.holds g.W.WeighShared.weighs g.met.K.Eq.laws c.args.self.now
-          (newcomer c.args.self.now.settings (guest c.new.ensures.0)) _ c.invalidate.new.steps is c.args.key.now c.args.now c.invalidate.ensures.call).1,
+          (newcomer c.args.self.now.settings (guest c.new.ensures.0)) c.new.ensures.1 _ c.invalidate.new.steps is c.args.key.now c.args.now
+          c.invalidate.ensures.call).1.0,
     )

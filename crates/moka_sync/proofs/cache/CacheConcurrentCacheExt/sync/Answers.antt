@@ -5,5 +5,5 @@ use Rattle.moka_sync.proofs.cache.CacheConcurrentCacheExt.sync.Goals as goal
 
 pub returns : goal.returns
 returns g c =
-    let is = c.new.ensures.1 ∙ ap (λ x. resting_at x (newcomer x.settings (guest c.new.ensures.0))) (c.get.ensures ∙ c.self.view_is) in
-    (c.new.ensures.0, c.sync.new.steps, rw (← is) c.sync.ensures.call)
+    let is = c.new.ensures.2 ∙ ap (λ x. resting_at x (newcomer x.settings (guest c.new.ensures.0)) c.new.ensures.1) (c.get.ensures ∙ c.self.view_is) in
+    (c.new.ensures.0, c.new.ensures.1, c.sync.new.steps, rw (← is) c.sync.ensures.call)

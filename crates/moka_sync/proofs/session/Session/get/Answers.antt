@@ -1,8 +1,10 @@
-use Rattle.std.proofs.Common.{◌≡◌, ◌∙◌, ap, subst, sym}
+use Rattle.std.proofs.Common.{◌≡◌, ◌∙◌, ℕ, List, ap, subst, sym}
 use Rattle.moka_common.specs.Keys.{Keys, keys_by}
 use Rattle.moka_row.specs.Visits.{IsIdle}
 use Rattle.moka_locks.specs.Cache.{Cache}
+use Rattle.moka_locks.specs.History.{Knows}
 use Rattle.moka_locks.specs.Locked.{resting_at}
+use Rattle.moka_locks.specs.Moments.{GoesOn, latest}
 use Rattle.moka_locks.specs.Tells.{Gets}
 use Rattle.moka_sync.proofs.CallLemmas.{get_tells}
 use Rattle.moka_sync.proofs.session.Session.get.Given.{Over}
@@ -12,25 +14,35 @@ use Rattle.moka_sync.proofs.session.Session.get.Goals as goal
 abbrev keys_of : (g : Over) → Keys g.row.K.Denot g.row.S.Denot
 keys_of g = keys_by (record { eq = g.K.PartialEq.eq; hash_input = g.K.Hash.hash_input }) g.S.BuildHasher g.S.Hasher.Hasher
 
--- the same cache, and what the call tells of what is known then
+-- the same cache, and what the call tells of what is known then, by the moments that were seen
 told : (g : Over) (c : After-into_caller g) → (c.get-found.new.steps.cache ≡ c.args.self.now.cache)
-    × (Gets (keys_of g) c.args.self.now.cache.settings g.V.Clone.is_clone c.args.self.now.knows c.args.key.now c.args.now c.get-found.result)
-    c.get-found.new.steps.knows
+    × (Gets (keys_of g) c.args.self.now.cache.settings g.V.Clone.is_clone c.args.self.now.knows c.args.key.now c.args.now
+    (latest c.get-found.new.steps.moments) c.get-found.result c.get-found.new.steps.knows
+    × GoesOn c.args.self.now.moments c.get-found.new.steps.moments)
 told g c =
     let starts = c.by-call.ensures
-    ∙ (λ j. resting_at ((c.get-inner.ensures ∙ ap (λ s. s.cache) c.self.view_is) j) ((ap (λ v. v.me.0) c.replace.ensures.value
-    ∙ ap (λ s. s.knows) c.self.view_is) j)) in
-    get_tells (keys_of g) g.P.PairRule.holds g.W.WeighShared.weighs g.met.K.Eq.laws c.args.self.now.cache c.args.self.now.knows c.by-call.result
+    ∙ (λ j. resting_at ((c.get-inner.ensures ∙ ap (λ s. s.cache) c.self.view_is) j) ((ap (λ v. v.shards.me.0) c.replace.ensures.value
+    ∙ ap (λ s. s.knows) c.self.view_is) j) ((ap (λ v. v.moments.me.0.seen) c.replace.ensures.value ∙ ap (λ s. s.moments) c.self.view_is) j)) in
+    get_tells (keys_of g) g.P.PairRule.holds g.W.WeighShared.weighs g.met.K.Eq.laws c.args.self.now.cache c.args.self.now.knows c.args.self.now.moments
+    c.by-call.result
     c.get-found.new.steps starts c.args.key.now c.args.now g.V.Clone.is_clone g.V.Clone.is_infallible c.get-found.result c.get-found.ensures.call
 
 pub invariant_of-self : goal.invariant_of-self
 invariant_of-self g c =
     let same = (told g (goal.at.invariant_of-self g c).After-into_caller).0 ∙ sym (ap (λ s. s.cache) c.self.view_is) in (
-      c.into_caller.ensures.table ∙ ap (λ (x : Cache g.row.S.Denot g.row.W.Denot). x.id) same,
-      subst (λ (x : Cache g.row.S.Denot g.row.W.Denot). IsIdle x.settings c.into_caller.result.me) same c.into_caller.ensures.idle,
+      c.into_caller.ensures.table ∙ ap (λ (x : Cache g.row.S.Denot g.row.W.Denot). x.id.shards) same,
+      subst (λ (x : Cache g.row.S.Denot g.row.W.Denot). IsIdle x.settings c.into_caller.result.shards.me) same c.into_caller.ensures.idle,
+      c.into_caller.ensures.seat.0 ∙ ap (λ (x : Cache g.row.S.Denot g.row.W.Denot). x.id.moments) same,
+      c.into_caller.ensures.seat.1,
     )
 
 pub returns-clause-made : goal.returns-clause-made
 returns-clause-made g c =
-    subst (Gets (keys_of g) c.args.self.now.cache.settings g.V.Clone.is_clone c.args.self.now.knows c.args.key.now c.args.now c.get-found.result)
-    (sym c.into_caller.ensures.knows) (told g (goal.at.returns-clause-made g c).After-into_caller).1
+    subst (λ (s : Knows g.row.K.Denot g.row.V.Denot g.row.S.Denot × List ℕ). Gets
+    (keys_of g) c.args.self.now.cache.settings g.V.Clone.is_clone c.args.self.now.knows
+    c.args.key.now c.args.now (latest s.1) c.get-found.result s.0) (λ j. (sym c.into_caller.ensures.knows j, sym c.into_caller.ensures.moments j))
+    (told g (goal.at.returns-clause-made g c).After-into_caller).1.0
+
+pub returns-clause-moments : goal.returns-clause-moments
+returns-clause-moments g c =
+    subst (GoesOn c.args.self.now.moments) (sym c.into_caller.ensures.moments) (told g (goal.at.returns-clause-moments g c).After-into_caller).1.1

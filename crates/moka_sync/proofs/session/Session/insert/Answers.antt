@@ -15,23 +15,29 @@ keys_of g = keys_by (record { eq = g.K.PartialEq.eq; hash_input = g.K.Hash.hash_
 -- the same cache, and what the call tells of what is known then
 told : (g : Over) (c : After-into_caller g) → (c.insert-answer.new.steps.cache ≡ c.args.self.now.cache)
     × (Inserts (keys_of g) c.args.self.now.cache.settings (g.W.WeighShared.weighs c.args.self.now.cache.weigher) c.args.self.now.knows c.args.key
-    c.args.value c.args.now c.insert-answer.result) c.insert-answer.new.steps.knows
+    c.args.value c.args.now c.insert-answer.result c.insert-answer.new.steps.knows × (c.insert-answer.new.steps.moments ≡ c.args.self.now.moments))
 told g c =
     let starts = c.by-call.ensures
-    ∙ (λ j. resting_at ((c.get-inner.ensures ∙ ap (λ s. s.cache) c.self.view_is) j) ((ap (λ v. v.me.0) c.replace.ensures.value
-    ∙ ap (λ s. s.knows) c.self.view_is) j)) in
+    ∙ (λ j. resting_at ((c.get-inner.ensures ∙ ap (λ s. s.cache) c.self.view_is) j) ((ap (λ v. v.shards.me.0) c.replace.ensures.value
+    ∙ ap (λ s. s.knows) c.self.view_is) j) ((ap (λ v. v.moments.me.0.seen) c.replace.ensures.value ∙ ap (λ s. s.moments) c.self.view_is) j)) in
     let same = c.in-Some.ensures {u = tt} in
-    insert_tells (keys_of g) g.P.PairRule.holds g.W.WeighShared.weighs g.met.K.Eq.laws c.args.self.now.cache c.args.self.now.knows c.by-call.result
+    insert_tells (keys_of g) g.P.PairRule.holds g.W.WeighShared.weighs g.met.K.Eq.laws c.args.self.now.cache c.args.self.now.knows c.args.self.now.moments
+    c.by-call.result
     c.insert-answer.new.steps starts c.args.key c.args.now c.args.value c.insert-answer.result (rw (← same.0, ← same.1) c.insert-answer.ensures.call)
 
 pub invariant_of-self : goal.invariant_of-self
 invariant_of-self g c =
     let same = (told g (goal.at.invariant_of-self g c).After-into_caller).0 ∙ sym (ap (λ s. s.cache) c.self.view_is) in (
-      c.into_caller.ensures.table ∙ ap (λ (x : Cache g.row.S.Denot g.row.W.Denot). x.id) same,
-      subst (λ (x : Cache g.row.S.Denot g.row.W.Denot). IsIdle x.settings c.into_caller.result.me) same c.into_caller.ensures.idle,
+      c.into_caller.ensures.table ∙ ap (λ (x : Cache g.row.S.Denot g.row.W.Denot). x.id.shards) same,
+      subst (λ (x : Cache g.row.S.Denot g.row.W.Denot). IsIdle x.settings c.into_caller.result.shards.me) same c.into_caller.ensures.idle,
+      c.into_caller.ensures.seat.0 ∙ ap (λ (x : Cache g.row.S.Denot g.row.W.Denot). x.id.moments) same,
+      c.into_caller.ensures.seat.1,
     )
 
 pub returns-clause-made : goal.returns-clause-made
 returns-clause-made g c =
     subst (Inserts (keys_of g) c.args.self.now.cache.settings (g.W.WeighShared.weighs c.args.self.now.cache.weigher) c.args.self.now.knows c.args.key
-    c.args.value c.args.now c.insert-answer.result) (sym c.into_caller.ensures.knows) (told g (goal.at.returns-clause-made g c).After-into_caller).1
+    c.args.value c.args.now c.insert-answer.result) (sym c.into_caller.ensures.knows) (told g (goal.at.returns-clause-made g c).After-into_caller).1.0
+
+pub returns-clause-moments : goal.returns-clause-moments
+returns-clause-moments g c = c.into_caller.ensures.moments ∙ (told g (goal.at.returns-clause-moments g c).After-into_caller).1.1

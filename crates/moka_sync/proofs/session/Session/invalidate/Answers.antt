@@ -17,20 +17,24 @@ keys_of g = keys_by (record { eq = g.K.PartialEq.eq; hash_input = g.K.Hash.hash_
 
 -- the same cache, and what the call tells of what is known then
 told : (g : Over) (c : After-into_caller g) → (c.invalidate.new.steps.cache ≡ c.args.self.now.cache)
-    × ((left : Option Ticket) × Makes (keys_of g) c.args.self.now.cache.settings c.args.self.now.knows (place_of (keys_of g)
+    × (((left : Option Ticket) × Makes (keys_of g) c.args.self.now.cache.settings c.args.self.now.knows (place_of (keys_of g)
     c.args.self.now.cache.settings c.args.key.now) (Invalidates c.args.key.now left) c.invalidate.new.steps.knows)
+    × (c.invalidate.new.steps.moments ≡ c.args.self.now.moments))
 told g c =
     let starts = c.by-call.ensures
-    ∙ (λ j. resting_at ((c.get-inner.ensures ∙ ap (λ s. s.cache) c.self.view_is) j) ((ap (λ v. v.me.0) c.replace.ensures.value
-    ∙ ap (λ s. s.knows) c.self.view_is) j)) in
-    invalidate_tells (keys_of g) g.P.PairRule.holds g.W.WeighShared.weighs g.met.K.Eq.laws c.args.self.now.cache c.args.self.now.knows c.by-call.result
+    ∙ (λ j. resting_at ((c.get-inner.ensures ∙ ap (λ s. s.cache) c.self.view_is) j) ((ap (λ v. v.shards.me.0) c.replace.ensures.value
+    ∙ ap (λ s. s.knows) c.self.view_is) j) ((ap (λ v. v.moments.me.0.seen) c.replace.ensures.value ∙ ap (λ s. s.moments) c.self.view_is) j)) in
+    invalidate_tells (keys_of g) g.P.PairRule.holds g.W.WeighShared.weighs g.met.K.Eq.laws c.args.self.now.cache c.args.self.now.knows c.args.self.now.moments
+    c.by-call.result
     c.invalidate.new.steps starts c.args.key.now c.args.now c.invalidate.ensures.call
 
 pub invariant_of-self : goal.invariant_of-self
 invariant_of-self g c =
     let same = (told g (goal.at.invariant_of-self g c).After-into_caller).0 ∙ sym (ap (λ s. s.cache) c.self.view_is) in (
-      c.into_caller.ensures.table ∙ ap (λ (x : Cache g.row.S.Denot g.row.W.Denot). x.id) same,
-      subst (λ (x : Cache g.row.S.Denot g.row.W.Denot). IsIdle x.settings c.into_caller.result.me) same c.into_caller.ensures.idle,
+      c.into_caller.ensures.table ∙ ap (λ (x : Cache g.row.S.Denot g.row.W.Denot). x.id.shards) same,
+      subst (λ (x : Cache g.row.S.Denot g.row.W.Denot). IsIdle x.settings c.into_caller.result.shards.me) same c.into_caller.ensures.idle,
+      c.into_caller.ensures.seat.0 ∙ ap (λ (x : Cache g.row.S.Denot g.row.W.Denot). x.id.moments) same,
+      c.into_caller.ensures.seat.1,
     )
 
 pub returns-clause-made : goal.returns-clause-made
@@ -38,4 +42,7 @@ returns-clause-made g c =
     subst (λ (k : Knows g.row.K.Denot g.row.V.Denot g.row.S.Denot). (left : Option Ticket)
     × Makes (keys_of g) c.args.self.now.cache.settings c.args.self.now.knows (place_of (keys_of g)
     c.args.self.now.cache.settings c.args.key.now) (Invalidates c.args.key.now left) k) (sym c.into_caller.ensures.knows) (told g
-    (goal.at.returns-clause-made g c).After-into_caller).1
+    (goal.at.returns-clause-made g c).After-into_caller).1.0
+
+pub returns-clause-moments : goal.returns-clause-moments
+returns-clause-moments g c = c.into_caller.ensures.moments ∙ (told g (goal.at.returns-clause-moments g c).After-into_caller).1.1
