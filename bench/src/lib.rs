@@ -1,6 +1,7 @@
 //! Compares the port with the original: by traces on single-thread caches and the core, batches on parts, and lists of calls on shared caches.
 pub mod caffeine_model;
 pub mod callgrind;
+pub mod chart;
 pub mod definitions;
 pub mod further_traces;
 pub mod hand_lists;
@@ -10,9 +11,7 @@ pub mod machine;
 pub mod memory;
 mod model_parts;
 mod original_sketch;
-pub mod panels;
 pub mod play_program;
-pub mod plot;
 pub mod port;
 pub mod rust_sides;
 pub mod simulator;

@@ -1,11 +1,21 @@
 //! Measures how the time of a call grows with the number of entries: `growth FILE [REPEATS]` prints a table, and draws it into FILE as SVG.
-use mini_moka_bench::plot::{plot, Line};
+use mini_moka_bench::chart::{Chart, Heights, Panel};
 use mini_moka_bench::timing::{time_original, time_port, Player};
 use mini_moka_bench::traces;
 use std::process::ExitCode;
 
 const REPEATS: usize = 3;
 const ENTRIES: [u64; 4] = [10_000, 100_000, 1_000_000, 10_000_000];
+
+/// Nanoseconds a call over the number of entries.
+const CHART: Chart = Chart {
+    columns: 1,
+    sides: &["this cache", "mini-moka 0.10.3"],
+    places: &[(1e4, "10^4"), (1e5, "10^5"), (1e6, "10^6"), (1e7, "10^7")],
+    across: ("entries", true),
+    heights: Heights::Up,
+    upwards: ("nanoseconds a call", |nanos| format!("{nanos:.0}")),
+};
 
 fn main() -> ExitCode {
     let words: Vec<String> = std::env::args().skip(1).collect();
@@ -43,20 +53,18 @@ fn main() -> ExitCode {
         nanos[0].push(port);
         nanos[1].push(original);
     }
-    let [port, original] = nanos;
-    let lines = [
-        Line {
-            name: "mini-moka 0.10.3",
-            colour: "#b5651d",
-            nanos: original,
-        },
-        Line {
-            name: "the port",
-            colour: "#1f5fa8",
-            nanos: port,
-        },
-    ];
-    if let Err(error) = std::fs::write(file, plot(&ENTRIES, &lines)) {
+    let points = |nanos: Vec<f64>| {
+        ENTRIES
+            .iter()
+            .map(|entries| *entries as f64)
+            .zip(nanos)
+            .collect()
+    };
+    let panel = Panel {
+        title: "Look-ups that insert what they miss".into(),
+        lines: nanos.map(points).into(),
+    };
+    if let Err(error) = std::fs::write(file, CHART.draw(&[panel])) {
         eprintln!("{file}: {error}");
         return ExitCode::FAILURE;
     }

@@ -2,9 +2,9 @@
 //!
 //! SIMULATOR is the program moka_sim, which plays the traces on this cache. The best possible cache is Belady's, which knows all later calls.
 use mini_moka_bench::caffeine_model::model_hits;
+use mini_moka_bench::chart::{Chart, Heights, Panel};
 use mini_moka_bench::further_traces::further_traces;
 use mini_moka_bench::hit_traces::{capacities, hit_traces};
-use mini_moka_bench::panels::{plot, Axes, Panel};
 use mini_moka_bench::rust_sides::{lru_cache, original, play, Multiply};
 use mini_moka_bench::simulator::simulated_hits;
 use mini_moka_bench::table::{print_head, print_row};
@@ -14,33 +14,45 @@ use std::hash::BuildHasher;
 use std::io::Write;
 use std::process::{Command, ExitCode, Stdio};
 
-/// The capacities, and hits in percent.
-const AXES: Axes = Axes {
-    columns: &["0.1%", "0.5%", "1%", "5%", "10%"],
-    heights: &[
-        (0.0, "0"),
-        (25.0, "25"),
-        (50.0, "50"),
-        (75.0, "75"),
-        (100.0, "100"),
-    ],
+/// Names of the capacities, in percent of the keys.
+const CAPACITIES: [(f64, &str); 5] = [
+    (0.1, "0.1%"),
+    (0.5, "0.5%"),
+    (1.0, "1%"),
+    (5.0, "5%"),
+    (10.0, "10%"),
+];
+
+/// The sides that are drawn, as hits below the best possible.
+const DRAWN: [&str; 4] = ["adaptive", "default", "mini-moka 0.10.3", "lru"];
+
+const CHART: Chart = Chart {
+    columns: 2,
+    sides: &DRAWN,
+    places: &CAPACITIES,
+    across: ("capacity", true),
+    heights: Heights::Down,
+    upwards: ("hits of 100 below the best possible", |below| match below {
+        0.0 => "0".into(),
+        _ => format!("-{below}"),
+    }),
 };
 
 /// The settings of this cache, by their names in moka_sim.
 const SETTINGS: [&str; 5] = ["default", "adaptive", "segments", "protected80", "window20"];
 
-const SIDES: [(&str, &str); 11] = [
-    ("best possible", "#999999"),
-    ("default", "#1f5fa8"),
-    ("adaptive", "#d62728"),
-    ("segments", "#bcbd22"),
-    ("protected 80", "#17becf"),
-    ("window 20", "#8c564b"),
-    ("mini-moka 0.10.3", "#b5651d"),
-    ("Caffeine", "#2e8b57"),
-    ("model of Caffeine 3", "#006400"),
-    ("lru", "#c71585"),
-    ("first in, first out", "#6a5acd"),
+const SIDES: [&str; 11] = [
+    "best possible",
+    "default",
+    "adaptive",
+    "segments",
+    "protected 80",
+    "window 20",
+    "mini-moka 0.10.3",
+    "Caffeine",
+    "model of Caffeine 3",
+    "lru",
+    "first in, first out",
 ];
 
 /// Counts the hits of the best possible cache. It evicts the key whose next call is latest or never comes, which may be the new key.
@@ -139,6 +151,20 @@ fn hits_at(
     ]
 }
 
+/// Returns the panel of a trace. The best possible cache is the first of the sides.
+fn below_best(name: &str, ratios: &[Vec<f64>]) -> Panel {
+    let line = |side: &&str| {
+        let number = SIDES.iter().position(|each| each == side);
+        let hits = &ratios[number.expect("a drawn side is one of the sides")];
+        let below = ratios[0].iter().zip(hits).map(|(best, hits)| best - hits);
+        CAPACITIES.iter().map(|place| place.0).zip(below).collect()
+    };
+    Panel {
+        title: name.into(),
+        lines: DRAWN.iter().map(line).collect(),
+    }
+}
+
 fn main() -> ExitCode {
     let words: Vec<String> = std::env::args().skip(1).collect();
     let [file, simulator, jar @ ..] = words.as_slice() else {
@@ -147,7 +173,7 @@ fn main() -> ExitCode {
     };
     let capacities = capacities();
     let mut head = vec!["Trace", "Capacity"];
-    head.extend(SIDES.iter().map(|side| side.0));
+    head.extend(SIDES);
     print_head(&head);
     let mut panels = Vec::new();
     let drawn = hit_traces();
@@ -166,7 +192,7 @@ fn main() -> ExitCode {
                 .into_iter()
                 .map(|hits| hits.map(|hits| 100.0 * hits as f64 / keys.len() as f64))
                 .collect();
-            let mut cells = vec![trace.name.to_string(), AXES.columns[index].to_string()];
+            let mut cells = vec![trace.name.to_string(), CAPACITIES[index].1.to_string()];
             for (side, percent) in percents.iter().enumerate() {
                 cells.push(percent.map_or("-".into(), |percent| format!("{percent:.1}")));
                 ratios[side].extend(percent);
@@ -174,13 +200,10 @@ fn main() -> ExitCode {
             print_row(&cells);
         }
         if number < count_drawn {
-            panels.push(Panel {
-                name: trace.name.into(),
-                heights: ratios,
-            });
+            panels.push(below_best(trace.name, &ratios));
         }
     }
-    if let Err(error) = std::fs::write(file, plot(&panels, &AXES, &SIDES)) {
+    if let Err(error) = std::fs::write(file, CHART.draw(&panels)) {
         eprintln!("{file}: {error}");
         return ExitCode::FAILURE;
     }

@@ -1,4 +1,6 @@
-//! Times the shared caches beside others, all in one run: `threads PROGRAM [REPEATS]`. PROGRAM is the built `bench_load`.
+//! Times the shared caches beside others, all in one run: `threads PROGRAM FILE [REPEATS]`. PROGRAM is the built `bench_load`. The calls a second are drawn into
+//! FILE as SVG.
+use mini_moka_bench::chart::{Chart, Heights, Panel};
 use mini_moka_bench::machine::{describe, Watch};
 use mini_moka_bench::memory::keep_memory;
 use mini_moka_bench::play_program::{Kind, PlayProgram};
@@ -42,6 +44,24 @@ const SIDES: [Side; 7] = [
     Side::LockedOriginal,
     Side::LockedPort,
 ];
+
+/// The sides that are drawn, each of whose calls reads the clock, but for those of the cache in a lock.
+const DRAWN: [Side; 4] = [
+    Side::ClockedSegments,
+    Side::ClockedPort,
+    Side::Original,
+    Side::LockedOriginal,
+];
+
+/// Calls a second of all threads.
+const CHART: Chart = Chart {
+    columns: 2,
+    sides: &["segments", "sync::Cache", "mini-moka sync", "one lock"],
+    places: &[(1.0, "1"), (2.0, "2"), (4.0, "4")],
+    across: ("threads", true),
+    heights: Heights::Up,
+    upwards: ("million calls a second", |calls| format!("{calls}")),
+};
 
 /// Data that the plays of all sides share.
 struct Bench {
@@ -146,8 +166,12 @@ impl Bench {
         Ok(all)
     }
 
-    /// Prints the row for `threads` threads. Returns `true` if it is right.
-    fn print_row(&mut self, mix: &Mix, threads: usize) -> io::Result<bool> {
+    /// Prints the row for `threads` threads. Returns the plays of all sides, and `true` if they are right.
+    fn print_row(
+        &mut self,
+        mix: &Mix,
+        threads: usize,
+    ) -> io::Result<([Repeats; SIDES.len()], bool)> {
         let watch = Watch::start(&[process::id(), self.program.process()]);
         let all = self.measure(SIDES, &mix.lists[..threads], self.repeats)?;
         let free = watch.free();
@@ -178,7 +202,7 @@ impl Bench {
                 mix.gets
             );
         }
-        Ok(fault.is_none())
+        Ok((all, fault.is_none()))
     }
 
     /// Prints the cost of publishing for the calls of `threads` threads.
@@ -282,7 +306,7 @@ fn print_turning_table(bench: &mut Bench) -> io::Result<()> {
 
 /// Returns the fault of a row, if there is one. No side may have more entries than its capacity. With one thread the order of calls is fixed, so the repeats of
 /// a single-thread cache must be alike.
-fn fault_of(all: &[Repeats; 7], threads: usize) -> Option<&'static str> {
+fn fault_of(all: &[Repeats; SIDES.len()], threads: usize) -> Option<&'static str> {
     let [.., original, port] = all;
     let mut plays = all.iter().flat_map(|repeats| &repeats.0);
     if plays.any(|played| played.entries > CAPACITY) {
@@ -325,8 +349,27 @@ fn print_counted_table(bench: &mut Bench) -> io::Result<()> {
     Ok(())
 }
 
-/// Prints the tables. Returns `true` if all rows of the first are right.
-fn print_tables(program: &str, repeats: usize) -> io::Result<bool> {
+/// Prints the rows of a share of gets. Returns their panel, and `true` if all of them are right.
+fn print_rows(bench: &mut Bench, gets: u64) -> io::Result<(Panel, bool)> {
+    let mix = Mix::new(gets, THREADS[THREADS.len() - 1]);
+    let mut lines = vec![Vec::new(); DRAWN.len()];
+    let mut all_right = true;
+    for threads in THREADS {
+        let (all, is_right) = bench.print_row(&mix, threads)?;
+        all_right &= is_right;
+        for (side, repeats) in SIDES.iter().zip(&all) {
+            if let Some(line) = DRAWN.iter().position(|drawn| drawn == side) {
+                let millions = 1e3 * threads as f64 / repeats.median();
+                lines[line].push((threads as f64, millions));
+            }
+        }
+    }
+    let title = format!("{gets} gets and {} inserts of 100 calls", 100 - gets);
+    Ok((Panel { title, lines }, all_right))
+}
+
+/// Prints the tables, and draws the first. Returns `true` if all rows of the first are right.
+fn print_tables(program: &str, file: &str, repeats: usize) -> io::Result<bool> {
     println!(
         "Nanoseconds a call of a thread: the median of {repeats} repeats, in brackets the least and the greatest. A ratio is the first side's calls per \
          second, divided by the second's, from the medians. With a clock, each call of the port reads it, as those of mini-moka's sync do; the other sides of the \
@@ -363,12 +406,13 @@ fn print_tables(program: &str, repeats: usize) -> io::Result<bool> {
     };
     bench.program.send_filling(CAPACITY, &bench.filling)?;
     let mut all_right = true;
+    let mut panels = Vec::new();
     for gets in GETS {
-        let mix = Mix::new(gets, THREADS[THREADS.len() - 1]);
-        for threads in THREADS {
-            all_right &= bench.print_row(&mix, threads)?;
-        }
+        let (panel, is_right) = print_rows(&mut bench, gets)?;
+        panels.push(panel);
+        all_right &= is_right;
     }
+    std::fs::write(file, CHART.draw(&panels))?;
     print_counted_table(&mut bench)?;
     print_turning_table(&mut bench)?;
     Ok(all_right)
@@ -376,17 +420,17 @@ fn print_tables(program: &str, repeats: usize) -> io::Result<bool> {
 
 fn main() -> ExitCode {
     let words: Vec<String> = std::env::args().skip(1).collect();
-    let Some(program) = words.first() else {
-        eprintln!("usage: threads PROGRAM [REPEATS]");
+    let [program, file, repeats @ ..] = words.as_slice() else {
+        eprintln!("usage: threads PROGRAM FILE [REPEATS]");
         return ExitCode::from(2);
     };
     keep_memory();
-    let repeats = words
-        .get(1)
+    let repeats = repeats
+        .first()
         .map_or(Ok(REPEATS), |word| word.parse())
         .expect("the number of repeats isn't a number");
     assert!(repeats > 0, "there is nothing to repeat");
-    match print_tables(program, repeats) {
+    match print_tables(program, file, repeats) {
         Ok(true) => ExitCode::SUCCESS,
         Ok(false) => ExitCode::FAILURE,
         Err(error) => {

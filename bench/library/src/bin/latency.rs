@@ -4,8 +4,8 @@
 //! hash. A time is that between two readings of the processor's counter, one of which is in it.
 //!
 //! Each filling is a process of its own, `latency once SIDE INITIAL CALLS`, since freed memory would be used again without the cost of its first touch.
-#[path = "../../../src/panels.rs"]
-mod panels;
+#[path = "../../../src/chart.rs"]
+mod chart;
 #[path = "../sides.rs"]
 mod sides;
 #[allow(dead_code)]
@@ -15,7 +15,7 @@ mod table;
 #[path = "../../../src/traces.rs"]
 mod traces;
 
-use panels::{plot, Axes, Panel};
+use chart::{Chart, Heights, Panel};
 use sides::{LruNumbers, OriginalNumbers, PackageNumbers, Side};
 use std::arch::x86_64::__rdtscp;
 use std::collections::HashMap;
@@ -31,29 +31,20 @@ const REPEATS: usize = 3;
 /// Shares of the calls that take at most the printed times.
 const SHARES: [f64; 4] = [0.5, 0.99, 0.999, 1.0];
 
-/// The shares, and nanoseconds on a logarithmic axis.
-const AXES: Axes = Axes {
-    columns: &["p50", "p99", "p99.9", "longest"],
-    heights: &[
-        (0.0, "10 ns"),
-        (25.0, "1 µs"),
-        (50.0, "100 µs"),
-        (75.0, "10 ms"),
-        (100.0, "1 s"),
-    ],
-};
+/// Names of the shares, at equal distances.
+const NAMES: [(f64, &str); 4] = [(0.0, "p50"), (1.0, "p99"), (2.0, "p99.9"), (3.0, "longest")];
 
-/// Name and colour of a side, and its constructor.
-type Named = (&'static str, &'static str, Make);
+/// Name of a side, and its constructor.
+type Named = (&'static str, Make);
 
 /// Makes a cache of a capacity, with memory for a number of entries.
 type Make = fn(capacity: usize, initial: usize) -> Box<dyn Side>;
 
 const SIDES: [Named; 4] = [
-    ("this cache", "#1f5fa8", package),
-    ("mini-moka 0.10.3", "#b5651d", original),
-    ("lru", "#c71585", lru),
-    ("HashMap", "#2e8b57", map),
+    ("this cache", package),
+    ("mini-moka 0.10.3", original),
+    ("lru", lru),
+    ("HashMap", map),
 ];
 
 fn package(capacity: usize, initial: usize) -> Box<dyn Side> {
@@ -124,7 +115,7 @@ fn percentiles(calls: usize, mut call: impl FnMut(usize)) -> [f64; 4] {
 
 /// Fills a side, looks up as many keys, and prints the percentiles of both.
 fn play_once(side: usize, initial: usize, calls: usize) {
-    let mut cache = SIDES[side].2(2 * calls, initial);
+    let mut cache = SIDES[side].1(2 * calls, initial);
     let inserts = percentiles(calls, |number| cache.insert(spread(number as u64)));
     let mut random = Random(2);
     let mut hits = 0;
@@ -165,9 +156,14 @@ fn time(nanos: f64) -> String {
     }
 }
 
-/// Returns the height of a time on the axis.
-fn height(nanos: f64) -> f64 {
-    12.5 * (nanos.log10() - 1.0).clamp(0.0, 8.0)
+/// Formats a power of ten on the axis.
+fn power(nanos: f64) -> String {
+    match nanos {
+        0.0..900.0 => format!("{nanos:.0} ns"),
+        900.0..9e5 => format!("{:.0} µs", nanos / 1e3),
+        9e5..9e8 => format!("{:.0} ms", nanos / 1e6),
+        _ => format!("{:.0} s", nanos / 1e9),
+    }
 }
 
 /// A kind of calls, and the times of each side.
@@ -194,9 +190,11 @@ fn measured(calls: usize) -> [Part; 3] {
 }
 
 fn print_table(parts: &[Part]) {
-    table::print_head(&[&["Calls", "Side"], AXES.columns].concat());
+    let mut head = vec!["Calls", "Side"];
+    head.extend(NAMES.map(|name| name.1));
+    table::print_head(&head);
     for part in parts {
-        for ((side, ..), row) in SIDES.iter().zip(&part.rows) {
+        for ((side, _), row) in SIDES.iter().zip(&part.rows) {
             let mut cells = vec![part.name.clone(), side.to_string()];
             cells.extend(row.map(time));
             table::print_row(&cells);
@@ -205,12 +203,20 @@ fn print_table(parts: &[Part]) {
 }
 
 fn drawn(parts: [Part; 3]) -> String {
+    let line = |row: &[f64; 4]| NAMES.iter().map(|name| name.0).zip(*row).collect();
     let panels = parts.map(|part| Panel {
-        name: part.name,
-        heights: part.rows.iter().map(|row| row.map(height).into()).collect(),
+        title: part.name,
+        lines: part.rows.iter().map(line).collect(),
     });
-    let sides = SIDES.map(|(name, colour, _)| (name, colour));
-    plot(&panels, &AXES, &sides)
+    let chart = Chart {
+        columns: 3,
+        sides: &SIDES.map(|side| side.0),
+        places: &NAMES,
+        across: ("share of the calls", false),
+        heights: Heights::Powers,
+        upwards: ("time of a call", power),
+    };
+    chart.draw(&panels)
 }
 
 fn print_and_draw(file: &str, calls: usize) -> ExitCode {
