@@ -1,16 +1,17 @@
 /*
- * A cache of bytes that threads share: N segments, each a handle of mini_moka.h behind a pthread mutex. All its code is in this header; a program links
- * libmini_moka.a and pthreads. The caches inside are proved. The sharing between threads is tested: dev/c_library/run runs threads that make each call but
+ * A cache of bytes or of numbers that threads share: N segments, each a handle of mini_moka.h behind a pthread mutex. All its code is in this header; a program
+ * links the library and pthreads. The caches inside are proved. The sharing between threads is tested: dev/c_library/run runs threads that make each call but
  * open and close under ThreadSanitizer.
  *
  * A key belongs to one segment, which has its part of the capacity and its own admission policy. A call waits only for calls in the same segment. Calls work as
  * those of mini_moka.h, and return the same statuses. A new entry that weighs more than its segment's part of the capacity is rejected. An update to such a
  * weight may empty the segment (mini_moka.h, the size of a cache). Keys that strangers choose may all belong to one segment: then the capacity of the others is
- * not used. There is no walk.
+ * not used.
  *
  * A program must keep these rules:
  *
  * - A struct mini_moka_segments starts as all zeros. One thread opens and closes it, while no other is in a call. The program never copies it.
+ * - A visitor (mini_moka_segments_visit) makes no call on the cache that it visits, and returns.
  * - The rules of mini_moka.h on pointers, memory, signal handlers and fork hold here too.
  */
 #ifndef MINI_MOKA_SEGMENTS_H
@@ -109,13 +110,9 @@ static inline uint64_t mini_moka_segments_part(uint64_t whole, size_t count, siz
     return whole == MINI_MOKA_UNLIMITED ? whole : whole / count + (at < whole % count);
 }
 
-/*
- * Opens a cache of `count` segments. If that is 0, chooses up to 16, each with a capacity of at least 100 entries, or 1 MiB if bytes are weighed; a smaller
- * cache has one. Each segment has its part of the capacity, of initial_capacity and of removed_room, which is rounded up. Keys are never spread quite evenly, so
- * a segment may grow although the whole cache has fewer entries than initial_capacity, unless that is the capacity. With more segments than the capacity some
- * keep nothing. If a segment can't be opened, nothing stays open.
- */
-static inline uint32_t mini_moka_segments_open(struct mini_moka_segments *all, const struct mini_moka_settings *settings, size_t count) {
+/* Opens `count` segments, or as many as suit the capacity if that is 0. The call opens one, with its part of the settings. */
+static inline uint32_t mini_moka_segments_open_all(struct mini_moka_segments *all, const struct mini_moka_settings *settings, size_t count,
+                                                   uint32_t (*call)(struct mini_moka *, const struct mini_moka_settings *)) {
     if (all->segments != NULL)
         return MINI_MOKA_ALREADY_OPEN;
     if (count == 0) {
@@ -139,7 +136,7 @@ static inline uint32_t mini_moka_segments_open(struct mini_moka_segments *all, c
         uint32_t status = pthread_mutex_init(&segment->in.lock, NULL) == 0 ? MINI_MOKA_DONE : MINI_MOKA_OUT_OF_MEMORY;
         if (status == MINI_MOKA_DONE) {
             all->count++;
-            status = mini_moka_open(&segment->in.cache, &part);
+            status = call(&segment->in.cache, &part);
         }
         if (status != MINI_MOKA_DONE) {
             mini_moka_segments_close(all);
@@ -148,6 +145,33 @@ static inline uint32_t mini_moka_segments_open(struct mini_moka_segments *all, c
     }
     return MINI_MOKA_DONE;
 }
+
+/* Opens a segment of numbers, by the settings that both kinds have. */
+static inline uint32_t mini_moka_segments_u64_open_one(struct mini_moka *segment, const struct mini_moka_settings *part) {
+    const struct mini_moka_u64_settings settings = {part->capacity,     part->time_to_live, part->time_to_idle,    part->initial_capacity,
+                                                    part->removed_room, part->window_share, part->protected_share, part->is_adaptive};
+    return mini_moka_u64_open(segment, &settings);
+}
+
+/*
+ * Opens a cache of `count` segments. If that is 0, chooses up to 16, each with a capacity of at least 100 entries, or 1 MiB if bytes are weighed; a smaller
+ * cache has one. Each segment has its part of the capacity, of initial_capacity and of removed_room, which is rounded up. Keys are never spread quite evenly, so
+ * a segment may grow although the whole cache has fewer entries than initial_capacity, unless that is the capacity. With more segments than the capacity some
+ * keep nothing. If a segment can't be opened, nothing stays open.
+ */
+static inline uint32_t mini_moka_segments_open(struct mini_moka_segments *all, const struct mini_moka_settings *settings, size_t count) {
+    return mini_moka_segments_open_all(all, settings, count, mini_moka_open);
+}
+
+/* Opens a cache of numbers in the same way. Calls for bytes return MINI_MOKA_OTHER_KIND on it, as calls for numbers do on one of bytes. */
+static inline uint32_t mini_moka_segments_u64_open(struct mini_moka_segments *all, const struct mini_moka_u64_settings *settings, size_t count) {
+    const struct mini_moka_settings both = {settings->capacity,     settings->time_to_live, settings->time_to_idle, settings->initial_capacity,
+                                            {0, 0},                 false,                  settings->removed_room, settings->window_share,
+                                            settings->protected_share, settings->is_adaptive};
+    return mini_moka_segments_open_all(all, &both, count, mini_moka_segments_u64_open_one);
+}
+
+/* ---- bytes */
 
 /* The calls with a key. Each returns MINI_MOKA_CLOSED if the cache isn't open. */
 static inline uint32_t mini_moka_segments_insert(struct mini_moka_segments *all, const void *key, size_t key_length, const void *value, size_t value_length,
@@ -196,17 +220,6 @@ static inline uint32_t mini_moka_segments_invalidate(struct mini_moka_segments *
     return mini_moka_segments_unlock(segment, mini_moka_invalidate(&segment->in.cache, key, key_length, now));
 }
 
-/* The calls on all segments, one after another. Another thread may change a segment before the call reaches it or after. */
-static inline uint32_t mini_moka_segments_invalidate_all(struct mini_moka_segments *all) {
-    if (all->segments == NULL)
-        return MINI_MOKA_CLOSED;
-    for (size_t i = 0; i < all->count; i++) {
-        pthread_mutex_lock(&all->segments[i].in.lock);
-        mini_moka_segments_unlock(&all->segments[i], mini_moka_invalidate_all(&all->segments[i].in.cache));
-    }
-    return MINI_MOKA_DONE;
-}
-
 /*
  * Drains a removed entry of the first segment that has one, as mini_moka_removed does. Entries of one key are drained in the order in which they left. If other
  * threads make calls, a call after MINI_MOKA_TOO_SHORT may find another entry.
@@ -221,6 +234,175 @@ static inline uint32_t mini_moka_segments_removed(struct mini_moka_segments *all
                                            mini_moka_removed(cache, key, key_room, value, value_room, key_length, value_length, cause));
     }
     return status;
+}
+
+/* A buffer for keys or values, which begins as all zeros. */
+struct mini_moka_segments_buffer {
+    void *bytes;
+    size_t room;
+};
+
+/* Makes the buffer at least this long. Returns false if memory is refused. */
+static inline bool mini_moka_segments_grow(struct mini_moka_segments_buffer *buffer, size_t length) {
+    if (length <= buffer->room)
+        return true;
+    void *bytes = realloc(buffer->bytes, length);
+    if (bytes == NULL)
+        return false;
+    buffer->bytes = bytes;
+    buffer->room = length;
+    return true;
+}
+
+/* Returns the status of a visit, from that of the last segment. */
+static inline uint32_t mini_moka_segments_visited(uint32_t status) {
+    if (status == MINI_MOKA_ABSENT)
+        return MINI_MOKA_DONE;
+    return status;
+}
+
+/* Gets the `context` of the visit, and a copy of an entry, which is valid until it returns. Returns false to end the visit. */
+typedef bool mini_moka_visitor(void *context, const void *key, size_t key_length, const void *value, size_t value_length);
+
+/* Visits the entries of a locked segment. Returns MINI_MOKA_ABSENT after the last one, and MINI_MOKA_DONE if the visitor ended the visit. */
+static inline uint32_t mini_moka_segments_visit_one(struct mini_moka *cache, uint64_t now, mini_moka_visitor *visitor, void *context,
+                                                    struct mini_moka_segments_buffer *key, struct mini_moka_segments_buffer *value) {
+    uint32_t status = mini_moka_walk(cache);
+    while (status == MINI_MOKA_DONE) {
+        size_t key_length, value_length;
+        status = mini_moka_next(cache, now, key->bytes, key->room, value->bytes, value->room, &key_length, &value_length);
+        if (status == MINI_MOKA_DONE && !visitor(context, key->bytes, key_length, value->bytes, value_length))
+            return MINI_MOKA_DONE;
+        if (status == MINI_MOKA_TOO_SHORT)
+            status = mini_moka_segments_grow(key, key_length) && mini_moka_segments_grow(value, value_length) ? MINI_MOKA_DONE : MINI_MOKA_OUT_OF_MEMORY;
+    }
+    return status;
+}
+
+/*
+ * Calls the visitor with each entry that is unexpired at `now`, until it returns false. It locks one segment after another, and visits the entries of each in
+ * the order of a walk (mini_moka_walk). Calls in a segment wait while it is visited. A visit doesn't count as an access.
+ *
+ * If other threads change the cache meanwhile, no entry is visited twice, and one that stays in the cache is visited. One that is inserted or leaves meanwhile
+ * may be visited or not. The entries of a segment are those of one moment, but those of two segments may not be.
+ *
+ * Returns MINI_MOKA_DONE also if the visitor ended the visit. It allocates memory for the longest key and the longest value. If that is refused, it returns
+ * MINI_MOKA_OUT_OF_MEMORY, and may have visited some entries.
+ */
+static inline uint32_t mini_moka_segments_visit(struct mini_moka_segments *all, uint64_t now, mini_moka_visitor *visitor, void *context) {
+    struct mini_moka_segments_buffer key = {NULL, 0}, value = {NULL, 0};
+    if (all->segments == NULL)
+        return MINI_MOKA_CLOSED;
+    /* No pointer that the library gets is null, so each buffer has a byte. */
+    uint32_t status = mini_moka_segments_grow(&key, 1) && mini_moka_segments_grow(&value, 1) ? MINI_MOKA_ABSENT : MINI_MOKA_OUT_OF_MEMORY;
+    for (size_t i = 0; i < all->count && status == MINI_MOKA_ABSENT; i++) {
+        pthread_mutex_lock(&all->segments[i].in.lock);
+        status = mini_moka_segments_unlock(&all->segments[i], mini_moka_segments_visit_one(&all->segments[i].in.cache, now, visitor, context, &key, &value));
+    }
+    free(key.bytes);
+    free(value.bytes);
+    return mini_moka_segments_visited(status);
+}
+
+/* ---- numbers */
+
+/* These calls work as those of bytes. */
+static inline uint32_t mini_moka_segments_u64_insert(struct mini_moka_segments *all, uint64_t key, uint64_t value, uint64_t now) {
+    if (all->segments == NULL)
+        return MINI_MOKA_CLOSED;
+    union mini_moka_segment *segment = mini_moka_segments_lock(all, &key, sizeof key);
+    return mini_moka_segments_unlock(segment, mini_moka_u64_insert(&segment->in.cache, key, value, now));
+}
+
+static inline uint32_t mini_moka_segments_u64_get(struct mini_moka_segments *all, uint64_t key, uint64_t now, uint64_t *value) {
+    if (all->segments == NULL)
+        return MINI_MOKA_CLOSED;
+    union mini_moka_segment *segment = mini_moka_segments_lock(all, &key, sizeof key);
+    return mini_moka_segments_unlock(segment, mini_moka_u64_get(&segment->in.cache, key, now, value));
+}
+
+static inline uint32_t mini_moka_segments_u64_peek(struct mini_moka_segments *all, uint64_t key, uint64_t now, uint64_t *value) {
+    if (all->segments == NULL)
+        return MINI_MOKA_CLOSED;
+    union mini_moka_segment *segment = mini_moka_segments_lock(all, &key, sizeof key);
+    return mini_moka_segments_unlock(segment, mini_moka_u64_peek(&segment->in.cache, key, now, value));
+}
+
+static inline uint32_t mini_moka_segments_u64_remove(struct mini_moka_segments *all, uint64_t key, uint64_t now, uint64_t *value) {
+    if (all->segments == NULL)
+        return MINI_MOKA_CLOSED;
+    union mini_moka_segment *segment = mini_moka_segments_lock(all, &key, sizeof key);
+    return mini_moka_segments_unlock(segment, mini_moka_u64_remove(&segment->in.cache, key, now, value));
+}
+
+static inline uint32_t mini_moka_segments_u64_contains(struct mini_moka_segments *all, uint64_t key, uint64_t now) {
+    if (all->segments == NULL)
+        return MINI_MOKA_CLOSED;
+    union mini_moka_segment *segment = mini_moka_segments_lock(all, &key, sizeof key);
+    return mini_moka_segments_unlock(segment, mini_moka_u64_contains(&segment->in.cache, key, now));
+}
+
+static inline uint32_t mini_moka_segments_u64_invalidate(struct mini_moka_segments *all, uint64_t key, uint64_t now) {
+    if (all->segments == NULL)
+        return MINI_MOKA_CLOSED;
+    union mini_moka_segment *segment = mini_moka_segments_lock(all, &key, sizeof key);
+    return mini_moka_segments_unlock(segment, mini_moka_u64_invalidate(&segment->in.cache, key, now));
+}
+
+/* Gets the value of the key, or inserts `otherwise`, as mini_moka_u64_get_or_insert does. No other thread's call comes between. */
+static inline uint32_t mini_moka_segments_u64_get_or_insert(struct mini_moka_segments *all, uint64_t key, uint64_t otherwise, uint64_t now,
+                                                            uint64_t *value) {
+    if (all->segments == NULL)
+        return MINI_MOKA_CLOSED;
+    union mini_moka_segment *segment = mini_moka_segments_lock(all, &key, sizeof key);
+    return mini_moka_segments_unlock(segment, mini_moka_u64_get_or_insert(&segment->in.cache, key, otherwise, now, value));
+}
+
+static inline uint32_t mini_moka_segments_u64_removed(struct mini_moka_segments *all, uint64_t *key, uint64_t *value, uint32_t *cause) {
+    uint32_t status = all->segments == NULL ? MINI_MOKA_CLOSED : MINI_MOKA_ABSENT;
+    for (size_t i = 0; i < all->count && status == MINI_MOKA_ABSENT; i++) {
+        pthread_mutex_lock(&all->segments[i].in.lock);
+        status = mini_moka_segments_unlock(&all->segments[i], mini_moka_u64_removed(&all->segments[i].in.cache, key, value, cause));
+    }
+    return status;
+}
+
+/* Gets the `context` of the visit, and an entry. Returns false to end the visit. */
+typedef bool mini_moka_u64_visitor(void *context, uint64_t key, uint64_t value);
+
+/* Visits the entries of a locked segment, as mini_moka_segments_visit_one does. */
+static inline uint32_t mini_moka_segments_u64_visit_one(struct mini_moka *cache, uint64_t now, mini_moka_u64_visitor *visitor, void *context) {
+    uint64_t key, value;
+    uint32_t status = mini_moka_walk(cache);
+    while (status == MINI_MOKA_DONE) {
+        status = mini_moka_u64_next(cache, now, &key, &value);
+        if (status == MINI_MOKA_DONE && !visitor(context, key, value))
+            return MINI_MOKA_DONE;
+    }
+    return status;
+}
+
+/* Calls the visitor as mini_moka_segments_visit does. It is never refused memory. */
+static inline uint32_t mini_moka_segments_u64_visit(struct mini_moka_segments *all, uint64_t now, mini_moka_u64_visitor *visitor, void *context) {
+    uint32_t status = all->segments == NULL ? MINI_MOKA_CLOSED : MINI_MOKA_ABSENT;
+    for (size_t i = 0; i < all->count && status == MINI_MOKA_ABSENT; i++) {
+        pthread_mutex_lock(&all->segments[i].in.lock);
+        status = mini_moka_segments_unlock(&all->segments[i], mini_moka_segments_u64_visit_one(&all->segments[i].in.cache, now, visitor, context));
+    }
+    return mini_moka_segments_visited(status);
+}
+
+/* ---- either kind */
+
+/* The calls on all segments, one after another. Another thread may change a segment before the call reaches it or after. */
+static inline uint32_t mini_moka_segments_invalidate_all(struct mini_moka_segments *all) {
+    if (all->segments == NULL)
+        return MINI_MOKA_CLOSED;
+    for (size_t i = 0; i < all->count; i++) {
+        pthread_mutex_lock(&all->segments[i].in.lock);
+        mini_moka_segments_unlock(&all->segments[i], mini_moka_invalidate_all(&all->segments[i].in.cache));
+    }
+    return MINI_MOKA_DONE;
 }
 
 /* Adds two counts. The sum is at most UINT64_MAX. */

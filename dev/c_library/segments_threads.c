@@ -1,7 +1,7 @@
 /*
- * Tests a cache of include/mini_moka_segments.h that threads share: segments_threads [CALLS]. Four threads make CALLS random calls each on common keys, while a
- * fifth counts, weighs, drains and clears. A value that is found or drained must have been inserted at its key, and each entry that leaves must be returned,
- * drained or lost. dev/c_library/run also runs it under ThreadSanitizer. Prints the first check that fails, and exits with status 1 then.
+ * Tests caches of include/mini_moka_segments.h that threads share: segments_threads [CALLS]. Four threads make CALLS random calls each on common keys, while a
+ * fifth counts, weighs, visits, drains and clears. A value that is found, visited or drained must have been inserted at its key, and each entry that leaves
+ * must be returned, drained or lost. dev/c_library/run also runs it under ThreadSanitizer. Prints the first check that fails, and exits with status 1 then.
  */
 #include "segments.h"
 
@@ -70,10 +70,31 @@ static uintptr_t drain(void) {
     return drained;
 }
 
+/* The keys that a visit has met. */
+struct visit {
+    bool is_met[KEYS];
+    size_t count;
+};
+
+/* Checks an entry of a visit, which meets no key twice. */
+static bool meet(void *context, const void *key, size_t key_length, const void *value, size_t value_length) {
+    struct visit *visit = (struct visit *)context;
+    uint32_t number;
+    CHECK(key_length == sizeof number);
+    memcpy(&number, key, sizeof number);
+    CHECK(number < KEYS && !visit->is_met[number]);
+    visit->is_met[number] = true;
+    visit->count++;
+    look(number, MINI_MOKA_DONE, (const unsigned char *)value, value_length);
+    return true;
+}
+
 static void *count_and_clear(void *unused) {
     struct mini_moka_statistics met;
     uintptr_t drained = (uintptr_t)unused;
     for (int i = 0; i < calls / 100; i++) {
+        struct visit visit = {{false}, 0};
+        CHECK(mini_moka_segments_visit(&shared, (uint64_t)i * 100, meet, &visit) == MINI_MOKA_DONE && visit.count <= 310);
         CHECK(number_of(&shared, mini_moka_segments_count) <= 310 && number_of(&shared, mini_moka_segments_weight) <= 310);
         CHECK(mini_moka_segments_statistics(&shared, &met) == MINI_MOKA_DONE);
         drained += drain();
@@ -83,23 +104,130 @@ static void *count_and_clear(void *unused) {
     return (void *)drained;
 }
 
-static void threads_share(void) {
+/* Runs these calls in four threads, and those in a fifth. Returns the sum of what they return. */
+static uint64_t run(void *(*call)(void *), void *(*other)(void *)) {
     pthread_t threads[THREADS + 1];
-    struct mini_moka_settings settings = {310, 1000, 500, 0, {3, 4}, false, 400, 1, 0, false};
-    struct mini_moka_statistics met;
-    uint64_t gone = 0;
-    CHECK(mini_moka_segments_open(&shared, &settings, 4) == MINI_MOKA_DONE);
+    uint64_t sum = 0;
     for (int i = 0; i < THREADS; i++)
-        CHECK(pthread_create(&threads[i], NULL, make_calls, (void *)(uintptr_t)(i + 1)) == 0);
-    CHECK(pthread_create(&threads[THREADS], NULL, count_and_clear, NULL) == 0);
+        CHECK(pthread_create(&threads[i], NULL, call, (void *)(uintptr_t)(i + 1)) == 0);
+    CHECK(pthread_create(&threads[THREADS], NULL, other, NULL) == 0);
     for (int i = 0; i <= THREADS; i++) {
         void *count;
         CHECK(pthread_join(threads[i], &count) == 0);
-        gone += (uintptr_t)count;
+        sum += (uintptr_t)count;
     }
-    gone += drain();
+    return sum;
+}
+
+static void threads_share(void) {
+    struct mini_moka_settings settings = {310, 1000, 500, 0, {3, 4}, false, 400, 1, 0, false};
+    struct mini_moka_statistics met;
+    CHECK(mini_moka_segments_open(&shared, &settings, 4) == MINI_MOKA_DONE);
+    uint64_t gone = run(make_calls, count_and_clear) + drain();
     CHECK(mini_moka_segments_statistics(&shared, &met) == MINI_MOKA_DONE);
     CHECK(met.inserts == number_of(&shared, mini_moka_segments_count) + gone + met.lost && gone > 0);
+    CHECK(mini_moka_segments_close(&shared) == MINI_MOKA_DONE);
+}
+
+/* ---- numbers */
+
+/* A value of a key has the key in its upper half. */
+static void look_at(uint64_t key, uint32_t status, uint64_t value) {
+    CHECK(status == MINI_MOKA_DONE || status == MINI_MOKA_ABSENT);
+    CHECK(status != MINI_MOKA_DONE || value >> 32 == key);
+}
+
+static void *make_number_calls(void *number) {
+    uint64_t state = (uint64_t)(uintptr_t)number, value = 0;
+    uintptr_t returned = 0;
+    for (int i = 0; i < calls; i++) {
+        uint64_t key = next_number(&state) % KEYS, now = (uint64_t)i, made = key << 32 | (next_number(&state) & UINT32_MAX);
+        uint32_t status;
+        switch (next_number(&state) % 9) {
+        case 0: case 1:
+            status = mini_moka_segments_u64_insert(&shared, key, made, now);
+            CHECK(status == MINI_MOKA_DONE || status == MINI_MOKA_REJECTED);
+            break;
+        case 2:
+            status = mini_moka_segments_u64_get_or_insert(&shared, key, made, now, &value);
+            CHECK(status == MINI_MOKA_DONE);
+            look_at(key, status, value);
+            break;
+        case 3:
+            status = mini_moka_segments_u64_remove(&shared, key, now, &value);
+            look_at(key, status, value);
+            returned += status == MINI_MOKA_DONE;
+            break;
+        case 4: CHECK(!mini_moka_is_error(mini_moka_segments_u64_contains(&shared, key, now))); break;
+        case 5:
+            status = mini_moka_segments_u64_peek(&shared, key, now, &value);
+            look_at(key, status, value);
+            break;
+        case 6: CHECK(mini_moka_segments_u64_invalidate(&shared, key, now) == MINI_MOKA_DONE); break;
+        default:
+            status = mini_moka_segments_u64_get(&shared, key, now, &value);
+            look_at(key, status, value);
+        }
+    }
+    return (void *)returned;
+}
+
+static bool meet_number(void *context, uint64_t key, uint64_t value) {
+    struct visit *visit = (struct visit *)context;
+    CHECK(key < KEYS && !visit->is_met[key]);
+    visit->is_met[key] = true;
+    visit->count++;
+    look_at(key, MINI_MOKA_DONE, value);
+    return true;
+}
+
+/* Visits and drains the numbers, and returns the number that was drained. */
+static void *visit_and_drain(void *unused) {
+    uintptr_t drained = (uintptr_t)unused;
+    uint64_t key, value;
+    uint32_t cause;
+    for (int i = 0; i < calls / 100; i++) {
+        struct visit visit = {{false}, 0};
+        CHECK(mini_moka_segments_u64_visit(&shared, (uint64_t)i * 100, meet_number, &visit) == MINI_MOKA_DONE && visit.count <= 310);
+        while (mini_moka_segments_u64_removed(&shared, &key, &value, &cause) == MINI_MOKA_DONE) {
+            look_at(key, MINI_MOKA_DONE, value);
+            drained++;
+        }
+    }
+    return (void *)drained;
+}
+
+static void threads_share_numbers(void) {
+    struct mini_moka_u64_settings settings = {310, 1000, 500, 0, 400, 1, 0, false};
+    struct mini_moka_statistics met;
+    CHECK(mini_moka_segments_u64_open(&shared, &settings, 4) == MINI_MOKA_DONE);
+    uint64_t gone = run(make_number_calls, visit_and_drain) + (uintptr_t)visit_and_drain(NULL);
+    CHECK(mini_moka_segments_statistics(&shared, &met) == MINI_MOKA_DONE);
+    CHECK(met.inserts == number_of(&shared, mini_moka_segments_count) + gone + met.lost && gone > 0);
+    CHECK(mini_moka_segments_close(&shared) == MINI_MOKA_DONE);
+}
+
+/* The numbers that the threads got for each key. */
+static uint64_t got[THREADS + 1][KEYS];
+
+/* Gets each key, or inserts the number of the thread. */
+static void *get_or_insert(void *number) {
+    uintptr_t thread = (uintptr_t)number;
+    for (uint64_t key = 0; key < KEYS; key++)
+        CHECK(mini_moka_segments_u64_get_or_insert(&shared, key, thread, 0, &got[thread][key]) == MINI_MOKA_DONE);
+    return NULL;
+}
+
+/* All threads that get or insert a key get the same number, which one of them inserted. */
+static void threads_get_or_insert(void) {
+    struct mini_moka_u64_settings settings = MINI_MOKA_U64_SETTINGS_INIT;
+    struct mini_moka_statistics met;
+    CHECK(mini_moka_segments_u64_open(&shared, &settings, 2) == MINI_MOKA_DONE);
+    CHECK(run(get_or_insert, get_or_insert) == 0);
+    for (int key = 0; key < KEYS; key++)
+        for (int i = 1; i <= THREADS; i++)
+            CHECK(got[i][key] == got[0][key] && got[i][key] <= THREADS);
+    CHECK(mini_moka_segments_statistics(&shared, &met) == MINI_MOKA_DONE && met.inserts == KEYS && met.hits == THREADS * KEYS && met.updates == 0);
     CHECK(mini_moka_segments_close(&shared) == MINI_MOKA_DONE);
 }
 
@@ -107,5 +235,7 @@ int main(int count, char **words) {
     if (count > 1)
         calls = atoi(words[1]);
     threads_share();
+    threads_share_numbers();
+    threads_get_or_insert();
     return 0;
 }
