@@ -159,13 +159,22 @@ uint32_t mini_moka_insert(struct mini_moka *handle, const void *key, size_t key_
  * Looks up the key, and makes its entry the most recently used one. Copies the value to the beginning of the buffer, and writes its length. If the buffer is
  * shorter, returns MINI_MOKA_TOO_SHORT and writes only the length, which counts as a hit too. (mini_moka_peek writes the length without counting.)
  *
- * This call and those of bytes below, but for mini_moka_removed, can be refused memory only for a key of more than 24 bytes. Such a key is copied into memory
- * of the handle, which grows if it is shorter than the key.
+ * This call and those of bytes below, but for mini_moka_get_or_insert and mini_moka_removed, can be refused memory only for a key of more than 24 bytes. Such a
+ * key is copied into memory of the handle, which grows if it is shorter than the key.
  */
 uint32_t mini_moka_get(struct mini_moka *handle, const void *key, size_t key_length, uint64_t now, void *buffer, size_t buffer_length, size_t *length);
 
 /* Looks up the key as mini_moka_get does, but doesn't count as an access: it counts, moves and removes nothing. */
 uint32_t mini_moka_peek(struct mini_moka *handle, const void *key, size_t key_length, uint64_t now, void *buffer, size_t buffer_length, size_t *length);
+
+/*
+ * Gets the value of the key, or inserts a copy of `otherwise` if there is none. Copies the value that it got or inserted, and writes its length, as
+ * mini_moka_get does: if the buffer is shorter, it returns MINI_MOKA_TOO_SHORT, but the value was got or inserted. It returns MINI_MOKA_DONE even if the new
+ * entry was rejected. It never updates: an expired entry of the key leaves as MINI_MOKA_CAUSE_EXPIRED, and the call is a miss and an insert. If memory for the
+ * insert is refused, the miss is counted all the same.
+ */
+uint32_t mini_moka_get_or_insert(struct mini_moka *handle, const void *key, size_t key_length, const void *otherwise, size_t otherwise_length, uint64_t now,
+                                 void *buffer, size_t buffer_length, size_t *length);
 
 /* Returns MINI_MOKA_DONE if the key has an unexpired entry, else MINI_MOKA_ABSENT. It doesn't count as an access. */
 uint32_t mini_moka_contains(struct mini_moka *handle, const void *key, size_t key_length, uint64_t now);

@@ -198,6 +198,16 @@ static inline uint32_t mini_moka_segments_peek(struct mini_moka_segments *all, c
     return mini_moka_segments_unlock(segment, mini_moka_peek(&segment->in.cache, key, key_length, now, buffer, buffer_length, length));
 }
 
+/* Gets the value of the key, or inserts a copy of `otherwise`, as mini_moka_get_or_insert does. No other thread's call comes between. */
+static inline uint32_t mini_moka_segments_get_or_insert(struct mini_moka_segments *all, const void *key, size_t key_length, const void *otherwise,
+                                                        size_t otherwise_length, uint64_t now, void *buffer, size_t buffer_length, size_t *length) {
+    if (all->segments == NULL)
+        return MINI_MOKA_CLOSED;
+    union mini_moka_segment *segment = mini_moka_segments_lock(all, key, key_length);
+    return mini_moka_segments_unlock(
+        segment, mini_moka_get_or_insert(&segment->in.cache, key, key_length, otherwise, otherwise_length, now, buffer, buffer_length, length));
+}
+
 static inline uint32_t mini_moka_segments_remove(struct mini_moka_segments *all, const void *key, size_t key_length, uint64_t now, void *buffer,
                                                  size_t buffer_length, size_t *length) {
     if (all->segments == NULL)
@@ -349,7 +359,6 @@ static inline uint32_t mini_moka_segments_u64_invalidate(struct mini_moka_segmen
     return mini_moka_segments_unlock(segment, mini_moka_u64_invalidate(&segment->in.cache, key, now));
 }
 
-/* Gets the value of the key, or inserts `otherwise`, as mini_moka_u64_get_or_insert does. No other thread's call comes between. */
 static inline uint32_t mini_moka_segments_u64_get_or_insert(struct mini_moka_segments *all, uint64_t key, uint64_t otherwise, uint64_t now,
                                                             uint64_t *value) {
     if (all->segments == NULL)

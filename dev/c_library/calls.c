@@ -39,6 +39,19 @@ static bool finds(look_up *call, struct mini_moka *cache, const char *key, uint6
     return memcmp(buffer, before, ROOM) == 0 && length == (text == NULL ? BEFORE : strlen(text));
 }
 
+/* Returns true if a get-or-insert returns this status and writes this text to a buffer of eight bytes, or nothing if the text is null. */
+static bool gives(struct mini_moka *cache, const char *key, const char *otherwise, uint64_t now, uint32_t status, const char *text) {
+    uint8_t buffer[ROOM], before[ROOM];
+    size_t length = BEFORE;
+    memset(buffer, BEFORE, ROOM);
+    memset(before, BEFORE, ROOM);
+    if (mini_moka_get_or_insert(cache, key, strlen(key), otherwise, strlen(otherwise), now, buffer, ROOM, &length) != status)
+        return false;
+    if (text != NULL)
+        memcpy(before, text, strlen(text));
+    return memcmp(buffer, before, ROOM) == 0 && length == (text == NULL ? BEFORE : strlen(text));
+}
+
 static uint32_t contains(struct mini_moka *cache, const char *key, uint64_t now) {
     return mini_moka_contains(cache, key, strlen(key), now);
 }
@@ -311,6 +324,50 @@ static void expired_numbers_leave_as_expired(void) {
     CHECK(met.expirations == 4 && met.removals == 0 && mini_moka_close(&cache) == MINI_MOKA_DONE);
 }
 
+/* ---- a get or an insert of bytes */
+
+/* A get-or-insert writes the value that it finds, or else the one that it inserts, and doesn't update. */
+static void bytes_are_got_or_inserted(void) {
+    struct mini_moka cache = {0};
+    struct mini_moka_statistics met;
+    struct mini_moka_settings settings = BYTES;
+    uint8_t buffer[ROOM] = {BEFORE};
+    size_t length = BEFORE;
+    settings.capacity = 2;
+    settings.removed_room = 10;
+    settings.time_to_live = 20;
+    CHECK(mini_moka_open(&cache, &settings) == MINI_MOKA_DONE && mini_moka_walk(&cache) == MINI_MOKA_DONE);
+    CHECK(gives(&cache, "a", "apple", 0, MINI_MOKA_DONE, "apple") && gives(&cache, "a", "pear", 1, MINI_MOKA_DONE, "apple"));
+    CHECK(mini_moka_next(&cache, 1, buffer, 1, buffer + 1, 1, &length, &(size_t){0}) == MINI_MOKA_CHANGED);
+    CHECK(gives(&cache, "", "", 1, MINI_MOKA_DONE, "") && gives(&cache, "", "12345678", 1, MINI_MOKA_DONE, ""));
+    CHECK(finds(mini_moka_peek, &cache, "a", 1, MINI_MOKA_DONE, "apple") && number_of(mini_moka_count, &cache) == 2);
+    /* The cache is full, so this entry is rejected. */
+    CHECK(gives(&cache, "c", "12345678", 1, MINI_MOKA_DONE, "12345678") && contains(&cache, "c", 1) == MINI_MOKA_ABSENT);
+    CHECK(drains(&cache, MINI_MOKA_DONE, "c=12345678", MINI_MOKA_CAUSE_REJECTED) && drains(&cache, MINI_MOKA_ABSENT, NULL, 0));
+    /* An entry that is expired leaves, and gives way to the new one. */
+    CHECK(gives(&cache, "a", "pear", 20, MINI_MOKA_DONE, "pear") && drains(&cache, MINI_MOKA_DONE, "a=apple", MINI_MOKA_CAUSE_EXPIRED));
+    CHECK(mini_moka_statistics(&cache, &met) == MINI_MOKA_DONE && met.hits == 2 && met.misses == 4 && met.inserts == 4 && met.rejections == 1);
+    CHECK(met.expirations == 1 && met.updates + met.evictions + met.removals == 0 && mini_moka_close(&cache) == MINI_MOKA_DONE);
+}
+
+/* If the buffer is shorter than the value, a get-or-insert gets or inserts it all the same, and writes only its length. */
+static void long_values_are_got_or_inserted(void) {
+    struct mini_moka cache = {0};
+    struct mini_moka_statistics met;
+    uint8_t buffer[2 * ROOM] = {BEFORE};
+    CHECK(mini_moka_open(&cache, &BYTES) == MINI_MOKA_DONE);
+    for (int round = 0; round < 2; round++) {
+        size_t length = BEFORE;
+        CHECK(mini_moka_get_or_insert(&cache, "long", 4, "123456789", 9, 0, buffer, ROOM, &length) == MINI_MOKA_TOO_SHORT && length == 9);
+        CHECK(buffer[0] == BEFORE && mini_moka_statistics(&cache, &met) == MINI_MOKA_DONE);
+        CHECK(met.hits == (uint64_t)round && met.misses == 1 && met.inserts == 1);
+        length = BEFORE;
+        CHECK(mini_moka_peek(&cache, "long", 4, 0, buffer, 2 * ROOM, &length) == MINI_MOKA_DONE && length == 9 && memcmp(buffer, "123456789", 9) == 0);
+        buffer[0] = BEFORE;
+    }
+    CHECK(mini_moka_close(&cache) == MINI_MOKA_DONE);
+}
+
 /* ---- numbers */
 
 static void numbers_come_and_go(void) {
@@ -522,7 +579,7 @@ static void bytes_answer(struct mini_moka *cache, uint32_t status) {
     char text[1] = "";
     CHECK(insert(cache, "a", "apple", 0) == status);
     CHECK(finds(mini_moka_get, cache, "a", 0, status, NULL) && finds(mini_moka_peek, cache, "a", 0, status, NULL));
-    CHECK(finds(mini_moka_remove, cache, "a", 0, status, NULL));
+    CHECK(finds(mini_moka_remove, cache, "a", 0, status, NULL) && gives(cache, "a", "apple", 0, status, NULL));
     CHECK(contains(cache, "a", 0) == status && invalidate(cache, "a", 0) == status);
     CHECK(walk_on(cache, 0, text) == status && text[0] == 0);
     CHECK(drains(cache, status, NULL, 0));
@@ -586,6 +643,8 @@ int main(void) {
     full_queues_lose();
     expired_entries_leave_as_expired();
     expired_numbers_leave_as_expired();
+    bytes_are_got_or_inserted();
+    long_values_are_got_or_inserted();
     numbers_come_and_go();
     numbers_expire();
     walks_meet_each_number();

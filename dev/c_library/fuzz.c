@@ -115,32 +115,60 @@ static void play_invalidate_all(struct model *model) {
     }
 }
 
-static void play_get_or_insert(struct model *model, uint64_t key) {
-    uint64_t version = model->versions + 1, value = 0;
-    struct known *known = &model->keys[key];
-    uint32_t status = mini_moka_u64_get_or_insert(&model->cache, key, value_number(key, version), model->now, &value);
-    if (is_refused(status)) {
-        model->misses++;
-        meet(model, known, MINI_MOKA_ABSENT);
-        return;
+/* Gets the value of the key, or inserts a version of it. Compares the value that is written: the known one if a hit was counted, else the new one. */
+static uint32_t get_or_insert(struct model *model, uint64_t key, uint64_t version) {
+    static uint8_t otherwise[LONGEST];
+    uint64_t hits = statistics_of(model).hits, number = value_number(key, version), known = value_number(key, model->keys[key].version);
+    if (!model->is_bytes) {
+        uint64_t value = 0;
+        uint32_t status = mini_moka_u64_get_or_insert(&model->cache, key, number, model->now, &value);
+        require(status != MINI_MOKA_DONE || value == (statistics_of(model).hits > hits ? known : number), "a wrong value was found or inserted");
+        return status;
     }
-    require(status == MINI_MOKA_DONE, "a get-or-insert failed");
-    if (is_alive(model, known) && value == value_number(key, known->version)) {
+    size_t key_length, length = SIZE_MAX, otherwise_length = fill(otherwise, number), room = some_room(otherwise_length);
+    uint8_t *at = block_of(key, &key_length, otherwise_length + room), *buffer = at + key_length + otherwise_length;
+    memcpy(at + key_length, otherwise, otherwise_length);
+    uint32_t status = mini_moka_get_or_insert(&model->cache, at, key_length, at + key_length, otherwise_length, model->now, buffer, room, &length);
+    compare_bytes(status, buffer, room, length, statistics_of(model).hits > hits ? known : number);
+    free(at);
+    return status;
+}
+
+static void play_get_or_insert(struct model *model, uint64_t key) {
+    uint64_t version = model->versions + 1;
+    struct known *known = &model->keys[key];
+    struct mini_moka_statistics before = statistics_of(model);
+    uint32_t status = get_or_insert(model, key, version);
+    struct mini_moka_statistics after = statistics_of(model);
+    if (after.misses == before.misses) {
+        /* A get that is refused memory isn't counted. */
+        if (is_look_up_refused(model, key, status))
+            return;
+        meet(model, known, status);
         model->hits++;
         note_use(model, key);
         return;
     }
     model->misses++;
+    require(!is_look_up_refused(model, key, MINI_MOKA_ABSENT), "a get was refused memory and counted");
+    if (is_refused(status)) {
+        meet(model, known, MINI_MOKA_ABSENT);
+        return;
+    }
+    require(is_found(status), "a get-or-insert failed");
+    uint32_t inserted = after.rejections > before.rejections ? MINI_MOKA_REJECTED : MINI_MOKA_DONE;
     model->inserts++;
-    require(value == value_number(key, version), "a wrong value was found or inserted");
+    model->rejections += inserted == MINI_MOKA_REJECTED;
     /* A live entry would have been found, so only an expired one can be replaced. */
     note_end(model, key, CAUSES, true);
-    note_put(model, key, version, MINI_MOKA_DONE);
+    note_put(model, key, version, inserted);
     meet(model, known, MINI_MOKA_ABSENT);
     model->versions = version;
-    bool has_left = model->puts[model->last_put[key]].has_left;
     write_down(model, known, version);
-    known->is_there = !has_left;
+    allocations_left = -1;
+    uint32_t found = look_up(model, mini_moka_peek, mini_moka_u64_peek, key);
+    require(!is_look_up_refused(model, key, found) && is_found(found) == (inserted == MINI_MOKA_DONE), "a get-or-insert counted a wrong rejection");
+    known->is_there = inserted == MINI_MOKA_DONE;
 }
 
 /* Drains all, and checks that each inserted entry remains, or was drained, returned or lost. Compares the drained entries of each cause with the statistics. */
@@ -173,8 +201,7 @@ static void play_counts(struct model *model) {
     require(model->is_weighed || (weight == count && count <= model->capacity), "a wrong weight, or more entries than the capacity");
     struct mini_moka_statistics met = statistics_of(model);
     require(met.hits == model->hits && met.misses == model->misses && met.inserts == model->inserts, "wrong statistics");
-    /* A get-or-insert doesn't report that its entry was rejected. */
-    require(model->is_bytes ? met.rejections == model->rejections : met.rejections >= model->rejections, "a wrong number of rejections");
+    require(met.rejections == model->rejections, "a wrong number of rejections");
     require(met.inserts - met.updates - met.rejections == met.evictions + met.expirations + met.removals + count, "the statistics don't add up");
     bool is_exact = model->capacity == MINI_MOKA_UNLIMITED && !model->goes_back;
     require(met.updates <= model->updates && (met.updates == model->updates || !is_exact), "a wrong number of updates");
@@ -275,9 +302,6 @@ static void play_call(struct model *model, unsigned dice) {
     static const unsigned below_it[] = {340, 680, 740, 800, 850, 880, 950, 951, 968, 970, 1000};
     for (call = 0; dice >= below_it[call];)
         call++;
-    /* Caches of bytes have no get-or-insert. */
-    if (call == 6 && model->is_bytes)
-        call = 1;
     /* A peek, a drain, and counts remove nothing. */
     if (call != 2 && call != 7 && call != 8 && call != 10)
         sweep(model);

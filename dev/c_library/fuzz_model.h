@@ -62,7 +62,7 @@ struct known {
 /* An entry that a call inserted: one version of a key's value. */
 struct put {
     uint64_t version, written, used;
-    uint32_t status; /* of the call; a get-or-insert doesn't report that its entry was rejected */
+    uint32_t status; /* of the insert: MINI_MOKA_REJECTED also if a get-or-insert counted a rejection */
     bool has_left, was_expired; /* was_expired is set if a call that removes expired entries was made while the entry was expired */
     uint32_t ended; /* the cause for which a call of the key, or one that removes all, ended the entry if it was still there, or CAUSES */
     int next; /* the next entry of the same key, or NO_PUT */
@@ -179,6 +179,15 @@ static size_t some_room(size_t length) {
     }
 }
 
+/* Compares the bytes and the length that a call wrote with those of a number. */
+static void compare_bytes(uint32_t status, const uint8_t *buffer, size_t room, size_t length, uint64_t number) {
+    static uint8_t wanted[LONGEST];
+    size_t wanted_length = fill(wanted, number);
+    require(status != MINI_MOKA_DONE || (length == wanted_length && length <= room && memcmp(buffer, wanted, length) == 0), "wrong bytes were found");
+    require(status != MINI_MOKA_TOO_SHORT || (length == wanted_length && length > room), "a wrong length was written");
+    require(status == MINI_MOKA_DONE || status == MINI_MOKA_TOO_SHORT || length == SIZE_MAX, "a length was written without a value");
+}
+
 /* Makes a look-up, and compares the value that it finds. The buffer adjoins the key, and is uninitialised. */
 static uint32_t look_up(struct model *model, bytes_call *bytes, numbers_call *numbers, uint64_t key) {
     static uint8_t wanted[LONGEST];
@@ -189,12 +198,10 @@ static uint32_t look_up(struct model *model, bytes_call *bytes, numbers_call *nu
         require(status != MINI_MOKA_DONE || value == value_number(key, version), "a wrong value was found");
         return status;
     }
-    size_t key_length, length = SIZE_MAX, wanted_length = fill(wanted, value_number(key, version)), room = some_room(wanted_length);
+    size_t key_length, length = SIZE_MAX, room = some_room(fill(wanted, value_number(key, version)));
     uint8_t *at = block_of(key, &key_length, room), *buffer = at + key_length;
     uint32_t status = bytes(&model->cache, at, key_length, model->now, buffer, room, &length);
-    require(status != MINI_MOKA_DONE || (length == wanted_length && length <= room && memcmp(buffer, wanted, length) == 0), "wrong bytes were found");
-    require(status != MINI_MOKA_TOO_SHORT || (length == wanted_length && length > room), "a wrong length was written");
-    require(status == MINI_MOKA_DONE || status == MINI_MOKA_TOO_SHORT || length == SIZE_MAX, "a length was written without a value");
+    compare_bytes(status, buffer, room, length, value_number(key, version));
     free(at);
     return status;
 }
@@ -270,10 +277,10 @@ static void sweep(struct model *model) {
     model->is_swept = true;
 }
 
-/* Returns true if the entry can have left for this cause. Only an eviction, or a rejection that isn't reported, can't be told. */
+/* Returns true if the entry can have left for this cause. Only an eviction can't be told. */
 static bool can_leave(const struct model *model, const struct put *put, uint32_t cause) {
     if (put->status == MINI_MOKA_REJECTED || cause == MINI_MOKA_CAUSE_REJECTED)
-        return cause == MINI_MOKA_CAUSE_REJECTED && (put->status == MINI_MOKA_REJECTED || (!model->is_bytes && model->capacity != MINI_MOKA_UNLIMITED));
+        return cause == MINI_MOKA_CAUSE_REJECTED && put->status == MINI_MOKA_REJECTED;
     switch (cause) {
     case MINI_MOKA_CAUSE_SIZE: return model->capacity != MINI_MOKA_UNLIMITED;
     case MINI_MOKA_CAUSE_EXPIRED: return put->was_expired || put->ended == MINI_MOKA_CAUSE_EXPIRED;

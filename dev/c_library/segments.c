@@ -63,6 +63,7 @@ static void calls_answer(void) {
     CHECK(mini_moka_segments_insert(&cache, "a", 1, "apple", 5, 0) == MINI_MOKA_CLOSED);
     CHECK(mini_moka_segments_removed(&cache, buffer, 8, buffer + 8, 8, &length, &(size_t){0}, &cause) == MINI_MOKA_CLOSED);
     CHECK(mini_moka_segments_get(&cache, "a", 1, 0, buffer, ROOM, &length) == MINI_MOKA_CLOSED);
+    CHECK(mini_moka_segments_get_or_insert(&cache, "a", 1, "apple", 5, 0, buffer, ROOM, &length) == MINI_MOKA_CLOSED);
     CHECK(mini_moka_segments_peek(&cache, "a", 1, 0, buffer, ROOM, &length) == MINI_MOKA_CLOSED);
     CHECK(mini_moka_segments_remove(&cache, "a", 1, 0, buffer, ROOM, &length) == MINI_MOKA_CLOSED);
     CHECK(mini_moka_segments_contains(&cache, "a", 1, 0) == MINI_MOKA_CLOSED && mini_moka_segments_invalidate(&cache, "a", 1, 0) == MINI_MOKA_CLOSED);
@@ -71,6 +72,7 @@ static void calls_answer(void) {
     CHECK(mini_moka_segments_open(&cache, &settings, 0) == MINI_MOKA_DONE && mini_moka_segments_open(&cache, &settings, 0) == MINI_MOKA_ALREADY_OPEN);
     CHECK(mini_moka_segments_insert(&cache, "a", 1, "apple", 5, 0) == MINI_MOKA_DONE && mini_moka_segments_insert(&cache, "", 0, "", 0, 0) == MINI_MOKA_DONE);
     CHECK(mini_moka_segments_get(&cache, "a", 1, 0, buffer, ROOM, &length) == MINI_MOKA_DONE && length == 5 && memcmp(buffer, "apple", 5) == 0);
+    CHECK(mini_moka_segments_get_or_insert(&cache, "", 0, "pear", 4, 0, buffer, ROOM, &length) == MINI_MOKA_DONE && length == 0);
     CHECK(mini_moka_segments_peek(&cache, "", 0, 0, buffer, ROOM, &length) == MINI_MOKA_DONE && length == 0);
     CHECK(mini_moka_segments_contains(&cache, "a", 1, 0) == MINI_MOKA_DONE && mini_moka_segments_contains(&cache, "b", 1, 0) == MINI_MOKA_ABSENT);
     CHECK(number_of(&cache, mini_moka_segments_count) == 2 && number_of(&cache, mini_moka_segments_weight) == 2);
@@ -78,7 +80,7 @@ static void calls_answer(void) {
     CHECK(mini_moka_segments_remove(&cache, "a", 1, 0, buffer, ROOM, &length) == MINI_MOKA_DONE);
     CHECK(mini_moka_segments_get(&cache, "a", 1, 0, buffer, ROOM, &length) == MINI_MOKA_ABSENT);
     CHECK(mini_moka_segments_invalidate(&cache, "", 0, 0) == MINI_MOKA_DONE && number_of(&cache, mini_moka_segments_count) == 0);
-    CHECK(mini_moka_segments_statistics(&cache, &met) == MINI_MOKA_DONE && met.hits == 1 && met.misses == 1 && met.inserts == 2);
+    CHECK(mini_moka_segments_statistics(&cache, &met) == MINI_MOKA_DONE && met.hits == 2 && met.misses == 1 && met.inserts == 2);
     CHECK(met.removals == 2 && met.updates + met.rejections + met.evictions + met.expirations == 0);
     CHECK(mini_moka_segments_close(&cache) == MINI_MOKA_DONE && mini_moka_segments_close(&cache) == MINI_MOKA_CLOSED);
     CHECK(cache.block == NULL && cache.segments == NULL && cache.count == 0);
@@ -186,7 +188,7 @@ static void compare_a_call(struct mini_moka_segments *all, struct mini_moka *one
     char key = (char)('a' + next_number(state) % 7), a[ROOM], b[ROOM];
     size_t length = 0, other = 0, room = next_number(state) % 8 + 2, size = next_number(state) % 6;
     uint32_t status, other_status;
-    switch (next_number(state) % 12) {
+    switch (next_number(state) % 13) {
     case 0:
         status = mini_moka_segments_remove(all, &key, 1, now, a, room, &length);
         other_status = mini_moka_remove(one, &key, 1, now, b, room, &other);
@@ -206,6 +208,10 @@ static void compare_a_call(struct mini_moka_segments *all, struct mini_moka *one
     case 5:
         status = mini_moka_segments_contains(all, &key, 1, now);
         other_status = mini_moka_contains(one, &key, 1, now);
+        break;
+    case 6:
+        status = mini_moka_segments_get_or_insert(all, &key, 1, "otherwise", size, now, a, room, &length);
+        other_status = mini_moka_get_or_insert(one, &key, 1, "otherwise", size, now, b, room, &other);
         break;
     default:
         memset(a, (int)(now & 127), ROOM);
@@ -414,6 +420,7 @@ static void numbers_answer(void) {
     CHECK(mini_moka_segments_u64_open(&cache, &settings, 3) == MINI_MOKA_DONE && cache.count == 3);
     CHECK(mini_moka_segments_u64_open(&cache, &settings, 3) == MINI_MOKA_ALREADY_OPEN && mini_moka_segments_open(&cache, &bytes, 3) == MINI_MOKA_ALREADY_OPEN);
     CHECK(mini_moka_segments_get(&cache, "a", 1, 0, buffer, ROOM, &length) == MINI_MOKA_OTHER_KIND);
+    CHECK(mini_moka_segments_get_or_insert(&cache, "a", 1, "apple", 5, 0, buffer, ROOM, &length) == MINI_MOKA_OTHER_KIND);
     CHECK(cache.seed == 0 && mini_moka_segments_u64_insert(&cache, 7, 49, 0) == MINI_MOKA_DONE);
     CHECK(mini_moka_segments_u64_get_or_insert(&cache, 7, 50, 0, &value) == MINI_MOKA_DONE && value == 49);
     CHECK(mini_moka_segments_u64_get_or_insert(&cache, 8, 64, 0, &value) == MINI_MOKA_DONE && value == 64);

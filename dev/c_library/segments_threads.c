@@ -24,6 +24,15 @@ static void look(uint32_t key, uint32_t status, const unsigned char *found, size
     CHECK(status != MINI_MOKA_DONE || (length >= 8 && length <= LONGEST && memcmp(found, wanted, fill(wanted, key, length)) == 0));
 }
 
+/* Gets the key, or inserts a value of it, and checks the value that it writes. */
+static void get_or_make(uint32_t key, size_t length, uint64_t now) {
+    unsigned char value[LONGEST], buffer[ROOM];
+    size_t written = 0;
+    uint32_t status = mini_moka_segments_get_or_insert(&shared, &key, sizeof key, value, fill(value, key, length), now, buffer, ROOM, &written);
+    CHECK(status == MINI_MOKA_DONE);
+    look(key, status, buffer, written);
+}
+
 static void *make_calls(void *number) {
     uint64_t state = (uint64_t)(uintptr_t)number;
     unsigned char value[LONGEST], buffer[ROOM];
@@ -33,7 +42,8 @@ static void *make_calls(void *number) {
         uint32_t key = (uint32_t)(next_number(&state) % KEYS), status;
         uint64_t now = (uint64_t)i;
         switch (next_number(&state) % 9) {
-        case 0: case 1: case 2:
+        case 0: get_or_make(key, 8 + next_number(&state) % (LONGEST - 8), now); break;
+        case 1: case 2:
             status = mini_moka_segments_insert(&shared, &key, sizeof key, value, fill(value, key, 8 + next_number(&state) % (LONGEST - 8)), now);
             CHECK(status == MINI_MOKA_DONE || status == MINI_MOKA_REJECTED);
             break;
@@ -207,28 +217,48 @@ static void threads_share_numbers(void) {
     CHECK(mini_moka_segments_close(&shared) == MINI_MOKA_DONE);
 }
 
+/* ---- a get or an insert */
+
 /* The numbers that the threads got for each key. */
 static uint64_t got[THREADS + 1][KEYS];
 
-/* Gets each key, or inserts the number of the thread. */
-static void *get_or_insert(void *number) {
+/* Gets each number, or inserts that of the thread. */
+static void *get_or_insert_numbers(void *number) {
     uintptr_t thread = (uintptr_t)number;
     for (uint64_t key = 0; key < KEYS; key++)
         CHECK(mini_moka_segments_u64_get_or_insert(&shared, key, thread, 0, &got[thread][key]) == MINI_MOKA_DONE);
     return NULL;
 }
 
-/* All threads that get or insert a key get the same number, which one of them inserted. */
-static void threads_get_or_insert(void) {
-    struct mini_moka_u64_settings settings = MINI_MOKA_U64_SETTINGS_INIT;
+/* Does the same with the bytes of the numbers. */
+static void *get_or_insert_bytes(void *number) {
+    uint64_t thread = (uintptr_t)number;
+    size_t length;
+    for (uint64_t key = 0; key < KEYS; key++) {
+        uint64_t *at = &got[thread][key];
+        CHECK(mini_moka_segments_get_or_insert(&shared, &key, sizeof key, &thread, sizeof thread, 0, at, sizeof *at, &length) == MINI_MOKA_DONE);
+        CHECK(length == sizeof thread);
+    }
+    return NULL;
+}
+
+/* Checks that all threads have got the same number for each key, which one of them inserted. Closes the cache. */
+static void all_got_the_same(void) {
     struct mini_moka_statistics met;
-    CHECK(mini_moka_segments_u64_open(&shared, &settings, 2) == MINI_MOKA_DONE);
-    CHECK(run(get_or_insert, get_or_insert) == 0);
     for (int key = 0; key < KEYS; key++)
         for (int i = 1; i <= THREADS; i++)
             CHECK(got[i][key] == got[0][key] && got[i][key] <= THREADS);
     CHECK(mini_moka_segments_statistics(&shared, &met) == MINI_MOKA_DONE && met.inserts == KEYS && met.hits == THREADS * KEYS && met.updates == 0);
     CHECK(mini_moka_segments_close(&shared) == MINI_MOKA_DONE);
+}
+
+static void threads_get_or_insert(void) {
+    struct mini_moka_settings settings = MINI_MOKA_SETTINGS_INIT;
+    struct mini_moka_u64_settings numbers = MINI_MOKA_U64_SETTINGS_INIT;
+    CHECK(mini_moka_segments_open(&shared, &settings, 2) == MINI_MOKA_DONE && run(get_or_insert_bytes, get_or_insert_bytes) == 0);
+    all_got_the_same();
+    CHECK(mini_moka_segments_u64_open(&shared, &numbers, 2) == MINI_MOKA_DONE && run(get_or_insert_numbers, get_or_insert_numbers) == 0);
+    all_got_the_same();
 }
 
 int main(int count, char **words) {

@@ -1,5 +1,5 @@
 -- How a call on a handle of bytes tells what the call of its cache answers.
-use Rattle.std.specs.Prelude.{◌≡◌, ◌<◌, ◌⊎◌, ◌&&◌, ℕ, List, is_some, length, nat_le, Option, option_map, if◌then◌else◌}
+use Rattle.std.specs.Prelude.{◌≡◌, ◌<◌, ◌⊎◌, ◌&&◌, ℕ, true, List, is_some, length, nat_le, Option, Some, None, option_map, if◌then◌else◌}
 use Rattle.moka_unsync.specs.Contents.{entry_at}
 use Rattle.moka_unsync.specs.Insert.{IsInserted}
 use Rattle.moka_unsync.specs.Invalidate.{after_invalidate}
@@ -27,13 +27,17 @@ TellsRefusal status old new = (status ≡ OUT_OF_MEMORY) × (new ≡ record old 
 abbrev pub TellsLongRefused : List ℕ → ℕ → ByteCache → ByteCache → Type 0
 TellsLongRefused key status old new = (SHORT_KEY < length key) × TellsRefusal status old new
 
--- the pair was put, and is counted, what leaves is queued, and the status says if the key has an entry now; or memory was refused
+-- the pair was put, and is counted, and what leaves is queued
+abbrev pub IsBytesInsert : List ℕ → List ℕ → ℕ → ByteCache → ByteCache → Type 0
+IsBytesInsert key value now old new =
+    IsInserted byte_keys byte_weighs old.cache key value now new.cache
+    × (new.leaving.statistics ≡ with_insertion byte_keys old.cache now key new.cache old.leaving.statistics)
+    × told.TellsInsert queues byte_keys old.cache now key value new.cache old.leaving.removed new.leaving.removed × (new.walk ≡ Ended)
+
+-- the pair was put, and the status says if the key has an entry now; or memory was refused
 abbrev pub TellsBytesInsert : List ℕ → List ℕ → ℕ → ℕ → ByteCache → ByteCache → Type 0
 TellsBytesInsert key value now status old new =
-    ((status ≡ status_of (inserted_of (is_some (entry_at byte_keys.eq key new.cache.contents.entries))))
-    × IsInserted byte_keys byte_weighs old.cache key value now new.cache
-    × (new.leaving.statistics ≡ with_insertion byte_keys old.cache now key new.cache old.leaving.statistics)
-    × told.TellsInsert queues byte_keys old.cache now key value new.cache old.leaving.removed new.leaving.removed × (new.walk ≡ Ended))
+    ((status ≡ status_of (inserted_of (is_some (entry_at byte_keys.eq key new.cache.contents.entries)))) × IsBytesInsert key value now old new)
     ⊎ TellsRefusal status old new
 
 -- what was found is told by its length, and copied where the buffer is long enough
@@ -41,13 +45,26 @@ abbrev pub TellsBytesFound : Option (List ℕ) → List ℕ → ℕ → List ℕ
 TellsBytesFound found buffer status filled written =
     TellsLength (option_map length found) (length buffer) status written × (filled ≡ copied_to buffer found)
 
+-- the key was looked up and is counted, and what cleanup removes is queued
+abbrev pub IsBytesGet : List ℕ → ℕ → ByteCache → ByteCache → Type 0
+IsBytesGet key now old new =
+    (new.cache ≡ after_get byte_keys old.cache key now)
+    × (new.leaving.statistics ≡ with_get (is_some (found_by_get byte_keys old.cache key now)) (with_cleanup byte_keys old.cache now old.leaving.statistics))
+    × told.TellsLook queues byte_keys old.cache now old.leaving.removed new.leaving.removed × (new.walk ≡ Ended)
+
 -- what a get finds
 abbrev pub TellsBytesGet : List ℕ → ℕ → List ℕ → ℕ → List ℕ → ℕ → ByteCache → ByteCache → Type 0
 TellsBytesGet key now buffer status filled written old new =
-    (TellsBytesFound (found_by_get byte_keys old.cache key now) buffer status filled written
-    × (new.cache ≡ after_get byte_keys old.cache key now)
-    × (new.leaving.statistics ≡ with_get (is_some (found_by_get byte_keys old.cache key now)) (with_cleanup byte_keys old.cache now old.leaving.statistics))
-    × told.TellsLook queues byte_keys old.cache now old.leaving.removed new.leaving.removed × (new.walk ≡ Ended))
+    (TellsBytesFound (found_by_get byte_keys old.cache key now) buffer status filled written × IsBytesGet key now old new)
+    ⊎ TellsLongRefused key status old new
+
+-- a get finds a value; or it finds none, and this one is inserted after it and told, or refused memory; or the get itself was refused memory
+abbrev pub TellsBytesGotOrInserted : List ℕ → List ℕ → ℕ → List ℕ → ℕ → List ℕ → ℕ → ByteCache → ByteCache → Type 0
+TellsBytesGotOrInserted key otherwise now buffer status filled written old new =
+    ((is_some (found_by_get byte_keys old.cache key now) ≡ true)
+    × TellsBytesFound (found_by_get byte_keys old.cache key now) buffer status filled written × IsBytesGet key now old new)
+    ⊎ ((missed : ByteCache) × (found_by_get byte_keys old.cache key now ≡ None) × IsBytesGet key now old missed
+    × ((TellsBytesFound (Some otherwise) buffer status filled written × IsBytesInsert key otherwise now missed new) ⊎ TellsRefusal status missed new))
     ⊎ TellsLongRefused key status old new
 
 -- what a peek finds

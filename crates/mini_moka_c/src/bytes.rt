@@ -1,7 +1,7 @@
 // The calls of a cache of bytes. Each borrows the cache from its handle, and makes one call of it.
-ghost use Rattle.std.specs.Prelude.{◌≡◌, ◌≢◌, false, IfErr, IfOk, MatchResult};
-ghost use Rattle.mini_moka_c.specs.ByteCalls.{TellsBytesGet, TellsBytesInsert, TellsBytesLook, TellsBytesPeek, TellsBytesRemove};
-ghost use Rattle.mini_moka_c.specs.ByteCalls.{TellsInvalidate};
+ghost use Rattle.std.specs.Prelude.{◌≡◌, ◌≢◌, false, IfErr, IfOk, MatchResult, Some};
+ghost use Rattle.mini_moka_c.specs.ByteCalls.{TellsBytesFound, TellsBytesGet, TellsBytesGotOrInserted, TellsBytesInsert, TellsBytesLook, TellsBytesPeek};
+ghost use Rattle.mini_moka_c.specs.ByteCalls.{TellsBytesRemove, TellsInvalidate};
 ghost use Rattle.mini_moka_c.specs.Calls.{OnBytes, OnOpen, TellsLength};
 ghost use Rattle.mini_moka_c.specs.Opening.{IsBytesKept, IsOpening, refusal_of, settings_fault};
 
@@ -120,6 +120,38 @@ pub extern "C" fn mini_moka_peek(
     }
 }
 
+/// Looks the key up as `mini_moka_get` does, and inserts a copy of `otherwise` if it finds nothing. Copies the found value, or `otherwise`, even if the new
+/// entry was rejected.
+#[unsafe(no_mangle)]
+pub extern "C" fn mini_moka_get_or_insert(
+    alloc: Global,
+    handle: &mut Handle,
+    key: &[u8],
+    otherwise: &[u8],
+    now: u64,
+    buffer: &mut [u8],
+    length: &mut usize,
+) -> u32
+    ensures step { OnOpen handle.old.value result handle.new.value
+        (OnBytes result (TellsBytesGotOrInserted key.now otherwise.now now buffer.old result buffer.new length.new)) }
+    ensures buffer { result ≢ DONE → buffer.new ≡ buffer.old }
+    ensures length { result ≢ DONE → result ≢ TOO_SHORT → length.new ≡ length.old }
+{
+    match handle.bytes() {
+        Ok(bytes) => {
+            let now = Instant::from_nanos(now);
+            match bytes.get(key, now, buffer) {
+                Ok(None) => match bytes.insert(alloc, key, otherwise, now) {
+                    Ok(_) => tell_copy(otherwise, buffer, length),
+                    Err(_) => OUT_OF_MEMORY,
+                },
+                found => tell(found, buffer.len(), length),
+            }
+        }
+        Err(status) => status,
+    }
+}
+
 /// Answers `DONE` if the key has an unexpired entry, else `ABSENT`. It doesn't count as an access.
 #[unsafe(no_mangle)]
 pub extern "C" fn mini_moka_contains(handle: &mut Handle, key: &[u8], now: u64) -> u32
@@ -171,6 +203,19 @@ pub extern "C" fn mini_moka_invalidate(handle: &mut Handle, key: &[u8], now: u64
         },
         Err(status) => status,
     }
+}
+
+/// Copies a value to the beginning of the buffer, if it fits, and writes its length. Answers `DONE` or `TOO_SHORT`.
+fn tell_copy(value: &[u8], buffer: &mut [u8], length: &mut usize) -> u32
+    ensures told { TellsBytesFound (Some value.now) buffer.old result buffer.new length.new }
+    ensures buffer { result ≢ DONE → buffer.new ≡ buffer.old }
+{
+    *length = value.len();
+    if value.len() > buffer.len() {
+        return TOO_SHORT;
+    }
+    buffer[..value.len()].copy_from_slice(value);
+    DONE
 }
 
 /// Writes the length of a found value. Answers `DONE` if it fits in a buffer of `room` bytes, else `TOO_SHORT`.
