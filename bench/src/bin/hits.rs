@@ -1,4 +1,4 @@
-//! Measures hit ratios over capacities: `hits FILE SIMULATOR [CAFFEINE.jar]` prints a table, and draws the first traces into FILE as SVG.
+//! Measures hit ratios over capacities: `hits FILE SIMULATOR [CAFFEINE.jar]` prints a table, and draws some of the traces into FILE as SVG.
 //!
 //! SIMULATOR is the program moka_sim, which plays the traces on this cache. The best possible cache is Belady's, which knows all later calls.
 use mini_moka_bench::caffeine_model::model_hits;
@@ -23,6 +23,18 @@ const CAPACITIES: [(f64, &str); 5] = [
     (10.0, "10%"),
 ];
 
+/// The traces that are drawn.
+const TRACES: [&str; 8] = [
+    "Zipf 0.8",
+    "Zipf 0.99",
+    "loop",
+    "scan mix",
+    "drifting hot set",
+    "asked soon again",
+    "phases",
+    "churn",
+];
+
 /// The sides that are drawn, as hits below the best possible.
 const DRAWN: [&str; 4] = ["adaptive", "default", "mini-moka 0.10.3", "lru"];
 
@@ -34,7 +46,7 @@ const CHART: Chart = Chart {
     heights: Heights::Down,
     upwards: ("hits of 100 below the best possible", |below| match below {
         0.0 => "0".into(),
-        _ => format!("-{below}"),
+        _ => format!("\u{2212}{below}"),
     }),
 };
 
@@ -176,9 +188,7 @@ fn main() -> ExitCode {
     head.extend(SIDES);
     print_head(&head);
     let mut panels = Vec::new();
-    let drawn = hit_traces();
-    let count_drawn = drawn.len();
-    for (number, trace) in drawn.into_iter().chain(further_traces()).enumerate() {
+    for trace in hit_traces().into_iter().chain(further_traces()) {
         let keys: Vec<u64> = trace.keys.iter().map(|number| spread(*number)).collect();
         let simulated = simulated_hits(simulator, &keys, &capacities, &SETTINGS);
         let caffeine = jar
@@ -199,7 +209,7 @@ fn main() -> ExitCode {
             }
             print_row(&cells);
         }
-        if number < count_drawn {
+        if TRACES.contains(&trace.name) {
             panels.push(below_best(trace.name, &ratios));
         }
     }
