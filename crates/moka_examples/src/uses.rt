@@ -1,9 +1,9 @@
 //! Small programs on each kind of cache, proved to be safe and to return: they have no contracts.
 use mini_moka::common::time::Instant;
-use mini_moka::common::{FixedState, Shared};
+use mini_moka::common::{FixedState, OutOfMemory, Shared};
 use mini_moka::sync::engine::{Call, Core, Reply};
 use mini_moka::sync::recorded::Record;
-use mini_moka::unsync::{Cache, NotifyingCache, Statistics};
+use mini_moka::unsync::{Cache, NotifyingCache, Statistics, TryInsertError};
 use mini_moka::{Error, unsync};
 use std::alloc::Global;
 use std::rc::Rc;
@@ -93,6 +93,27 @@ pub fn square_of_seven(alloc: Global) -> Result<[u64; 2], Error> {
     let square = cache.get_or_insert_with(7, now, || 7 * 7)?;
     let found = cache.peek(&7, now).copied().unwrap_or(0);
     Ok([square, found])
+}
+
+/// A number has no half.
+#[derive(Clone, Copy, Drop)]
+struct Odd;
+
+/// Returns half of a number, if there is one, and what a peek finds then: nothing, where making the half has failed.
+pub fn half_of(alloc: Global, number: u64) -> Result<(Option<u64>, Option<u64>), Error> {
+    let now = Instant::from_secs(0);
+    let mut cache: Cache<u64, u64> = Cache::new(alloc, 100)?;
+    let make = || if number % 2 == 0 {
+        Ok(number / 2)
+    } else {
+        Err(Odd)
+    };
+    let half = match cache.try_get_or_insert_with(number, now, make) {
+        Ok(half) => Some(half),
+        Err(TryInsertError::Make(Odd)) => None,
+        Err(TryInsertError::OutOfMemory) => return Err(Error::from(OutOfMemory)),
+    };
+    Ok((half, cache.peek(&number, now).copied()))
 }
 
 /// Counts why entries leave a cache of two. The causes are size, expiry, a call, another value, and rejection.

@@ -1,16 +1,19 @@
 -- A get or insert: its calls befit its visitor, and tell what was got or put.
 use Rattle.std.proofs.Common.{◌≡◌, ◌⊎◌, ℕ, Bool, true, false, Option, Some, None, Result, Ok, Err, inl, inr, refl, subst, sym}
 use Rattle.moka_common.specs.declared.error.InsertError.{InsertError}
+use Rattle.moka_common.specs.declared.error.InsertError.TheVariants as refused
 use Rattle.moka_common.specs.Keys.{Keys}
 use Rattle.moka_unsync_model.specs.CacheState.{CacheState}
 use Rattle.moka_unsync_model.specs.Step.{Get, Insert, Done, Found, OutOfMemory}
+use Rattle.moka_unsync.specs.declared.error.TryInsertError.{TryInsertError}
+use Rattle.moka_unsync.specs.declared.error.TryInsertError.TheVariants as failed
 use Rattle.moka_segments.specs.declared.plan.Plan.{Plan}
 use Rattle.moka_segments.specs.Plan.{place_of}
 use Rattle.moka_segments.specs.Rules.{Rules}
 use Rattle.moka_segments.specs.History.{Knows}
 use Rattle.moka_segments.specs.Calls.{Makes, Visits}
-use Rattle.moka_segments.specs.Put.{TellsGot, put_answer, visit_of}
-use Rattle.moka_segments.specs.Tells.{GetsOrInserts, PutsBehind}
+use Rattle.moka_segments.specs.Put.{TellsGot, TellsTried, put_answer, visit_of}
+use Rattle.moka_segments.specs.Tells.{GetsOrInserts, PutsBehind, TriesToInsert}
 use Rattle.moka_segments.proofs.CallLemmas.{Befit, call_of, one_call}
 
 module _ {K V S W : Type 0} (keys : Keys K S) (weighs : W → K → V → ℕ → W → Type 0) (rules : Rules K V) (ready : W → Type 0) (plan : Plan S) (i : ℕ)
@@ -107,3 +110,32 @@ module _ {K V S W : Type 0} (keys : Keys K S) (weighs : W → K → V → ℕ �
         → GetsOrInserts keys weighs rules plan is_clone makes v (place_of plan keys key) key now result w
     tells_there place found put result told m =
         subst (λ k. GetsOrInserts keys weighs rules plan is_clone makes v k key now result w) (sym place) (tells found put result told m)
+
+-- the same where making the value may fail
+module _ {K V S W E : Type 0} (keys : Keys K S) (weighs : W → K → V → ℕ → W → Type 0) (rules : Rules K V) (ready : W → Type 0) (plan : Plan S) (i : ℕ)
+    (is_clone : V → V → Type 0) (makes : Result V E → Type 0) (before : CacheState K V S W) (key : K) (now : ℕ) (between after : CacheState K V S W) where
+  abbrev made_by : V → Type 0
+  made_by value = makes (Ok value)
+
+  pub tried_befits : (by : ℕ) → place_of plan keys key ≡ i → rules.owns by key → ((value : V) → makes (Ok value) → rules.holds key value)
+      → (found : Option V) (put : Option (V × Bool)) (result : Result V (TryInsertError E)) → TellsTried is_clone makes found put result
+      → Befit keys weighs rules ready plan i by (visit_of before key now found between put after)
+  tried_befits by place owns holds found put (Ok copy) told =
+      befits keys weighs rules ready plan i is_clone made_by before key now between after by place owns holds found put (Ok copy) told
+  tried_befits by place owns holds found put (Err (failed.Make error)) told =
+      got_befits keys weighs rules ready plan i is_clone made_by before key now between after by place owns holds found put told.2
+  tried_befits by place owns holds found put (Err failed.OutOfMemory) told =
+      befits keys weighs rules ready plan i is_clone made_by before key now between after by place owns holds found put (Err refused.OutOfMemory) told
+
+  pub tried_there : (v w : Knows K V S W) → place_of plan keys key ≡ i → (found : Option V) (put : Option (V × Bool)) (result : Result V (TryInsertError E))
+      → TellsTried is_clone makes found put result → Visits keys weighs rules plan v i (visit_of before key now found between put after) w
+      → TriesToInsert keys weighs rules plan is_clone makes v (place_of plan keys key) key now result w
+  tried_there v w place found put (Ok copy) told m =
+      tells_there keys weighs rules ready plan i is_clone made_by before key now between after v w place found put (Ok copy) told m
+  tried_there v w place found put (Err (failed.Make error)) told m = (
+    told.0,
+    subst (λ k. Makes keys weighs rules plan v k (Get key now) (Found None) w) (sym place)
+        (got keys weighs rules ready plan i is_clone made_by before key now between after v w found put None told.1 told.2 m),
+  )
+  tried_there v w place found put (Err failed.OutOfMemory) told m =
+      tells_there keys weighs rules ready plan i is_clone made_by before key now between after v w place found put (Err refused.OutOfMemory) told m

@@ -1,9 +1,12 @@
 -- What a get or insert does with a cache for one thread, as the proofs note it.
 use Rattle.std.specs.Prelude.{◌≡◌, ◌⊎◌, ℕ, Bool, true, false, [], ◌∷◌, Option, Some, None, Result, Ok, Err}
 use Rattle.moka_common.specs.declared.error.InsertError.{InsertError}
+use Rattle.moka_common.specs.declared.error.InsertError.TheVariants as refused
 use Rattle.moka_common.specs.Keys.{Keys}
 use Rattle.moka_unsync_model.specs.CacheState.{CacheState}
 use Rattle.moka_unsync_model.specs.Step.{Answer, Get, Insert, IsStep, Done, Found, OutOfMemory}
+use Rattle.moka_unsync.specs.declared.error.TryInsertError.{TryInsertError}
+use Rattle.moka_unsync.specs.declared.error.TryInsertError.TheVariants as failed
 use Rattle.moka_segments.specs.History.{Visit}
 
 -- what an insert answers, by whether it had its room
@@ -30,6 +33,12 @@ TellsGot {V = V} is_clone makes found put (Ok copy) =
     (value : V) × is_clone value copy × (((found ≡ Some value) × (put ≡ None)) ⊎ (makes value × (found ≡ None) × (put ≡ Some (value, true))))
 TellsGot {V = V} is_clone makes found put (Err error) =
     (value : V) × (((found ≡ Some value) × (put ≡ None)) ⊎ (makes value × (found ≡ None) × ((put ≡ None) ⊎ (put ≡ Some (value, false)))))
+
+-- what is answered where making the value may fail: then nothing was found, and nothing is put
+abbrev pub TellsTried : {V E : Type 0} → (V → V → Type 0) → (Result V E → Type 0) → Option V → Option (V × Bool) → Result V (TryInsertError E) → Type 0
+TellsTried is_clone makes found put (Ok copy) = TellsGot is_clone (λ value. makes (Ok value)) found put (Ok copy)
+TellsTried is_clone makes found put (Err (failed.Make error)) = makes (Err error) × (found ≡ None) × (put ≡ None)
+TellsTried is_clone makes found put (Err failed.OutOfMemory) = TellsGot is_clone (λ value. makes (Ok value)) found put (Err refused.OutOfMemory)
 
 module _ {K V S W : Type 0} (keys : Keys K S) (weighs : W → K → V → ℕ → W → Type 0) where
   -- the insert's step, where there was one

@@ -1,6 +1,7 @@
 -- What a session's calls tell of the history at their place in it.
 use Rattle.std.specs.Prelude.{◌≡◌, ◌⊎◌, ◌↔◌, ℕ, Bool, true, List, [], ◌∷◌, ◌++◌, Option, Some, None, Result, Ok, Err}
 use Rattle.moka_common.specs.declared.error.InsertError.{InsertError}
+use Rattle.moka_common.specs.declared.error.InsertError.TheVariants as refused
 use Rattle.moka_common.specs.declared.error.OutOfMemory as error
 use Rattle.moka_common.specs.Keys.{Keys}
 use Rattle.moka_common.specs.Policy.{Policy}
@@ -9,6 +10,8 @@ use Rattle.moka_unsync_model.specs.Contents.{entry_at}
 use Rattle.moka_unsync_model.specs.Step.{Answer, ContainsKey, Get, Insert, Peek, Remove, Done, Found, OutOfMemory, Truth}
 use Rattle.moka_unsync_model.specs.History.{IsCurrent, LastWrite, Transition, exchanges, is_over, last_write}
 use Rattle.moka_unsync_model.specs.Removal.{IsMissing, IsRejected, last_write_of}
+use Rattle.moka_unsync.specs.declared.error.TryInsertError.{TryInsertError}
+use Rattle.moka_unsync.specs.declared.error.TryInsertError.TheVariants as failed
 use Rattle.moka_row.specs.Visits.{at}
 use Rattle.moka_segments.specs.declared.plan.Plan.{Plan}
 use Rattle.moka_segments.specs.Plan.{place_of}
@@ -120,6 +123,15 @@ module _ {K V S W : Type 0} (keys : Keys K S) (weighs : W → K → V → ℕ �
         (value : V)
         × (Makes keys weighs rules plan old i (Get key now) (Found (Some value)) new
         ⊎ (makes value × (Makes keys weighs rules plan old i (Get key now) (Found None) new ⊎ PutsBehind old i key value now OutOfMemory new)))
+
+    -- what a get or insert makes and tells whose value may fail to be made: then it is a get that finds nothing
+    abbrev pub TriesToInsert : {E : Type 0} → (V → V → Type 0) → (Result V E → Type 0) → Knows K V S W → ℕ → K → ℕ → Result V (TryInsertError E)
+        → Knows K V S W → Type 0
+    TriesToInsert is_clone makes old i key now (Ok copy) new = GetsOrInserts is_clone (λ value. makes (Ok value)) old i key now (Ok copy) new
+    TriesToInsert is_clone makes old i key now (Err (failed.Make error)) new =
+        makes (Err error) × Makes keys weighs rules plan old i (Get key now) (Found None) new
+    TriesToInsert is_clone makes old i key now (Err failed.OutOfMemory) new =
+        GetsOrInserts is_clone (λ value. makes (Ok value)) old i key now (Err refused.OutOfMemory) new
 
     -- what is found behind one's own write: a clone of the value, unless a visit of another since wrote, invalidated or removed the key
     pub record FindsOwn (is_clone : V → V → Type 0) (old : Knows K V S W) (key : K) (value : V) (found : Option V) (new : Knows K V S W) : Type 0 where

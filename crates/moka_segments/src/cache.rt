@@ -1,12 +1,12 @@
 //! The cache that threads share.
-ghost use Rattle.std.specs.Prelude.{◌≡◌, ℕ, IfOk, None};
+ghost use Rattle.std.specs.Prelude.{◌≡◌, ℕ, Ok, IfOk, None};
 ghost use Rattle.moka_segments.specs.Builder.{new_builder};
 ghost use Rattle.moka_common.specs.Keys.{keys_by};
 ghost use Rattle.moka_unsync_model.specs.Step.{Done, EntryCount, Invalidate, InvalidateAll, WeightedSize};
 ghost use Rattle.moka_segments.specs.Calls.{Makes, MakesAll, Sums};
 ghost use Rattle.moka_segments.specs.Plan.{place_of};
 ghost use Rattle.moka_segments.specs.Session.{ByGuest};
-ghost use Rattle.moka_segments.specs.Tells.{Gets, GetsOrInserts, Inserts, Looks, Peeks, Removes};
+ghost use Rattle.moka_segments.specs.Tells.{Gets, GetsOrInserts, Inserts, Looks, Peeks, Removes, TriesToInsert};
 ghost use Rattle.moka_segments.specs.TellsAll.{InvalidatesAllIf, TellsSnapshot};
 ghost use Rattle.moka_row.specs.Visits.{guest, newcomer};
 
@@ -24,6 +24,7 @@ use moka_common::policy::Policy;
 use moka_common::time::Instant;
 use moka_common::weigh::UnitWeight;
 use moka_row::row::come;
+use moka_unsync::error::TryInsertError;
 use moka_unsync_model::listener::NoListener;
 use std::alloc::{AllocError, Global};
 use std::hash::{BuildHasher, Hash};
@@ -164,6 +165,27 @@ impl<
         let shared = &*self.shared;
         let mut caller = come(&shared.table.shared);
         make::get_or_insert_with(rt, shared, &mut caller, key, now, make, &mut NoListener)
+    }
+
+    /// Returns a clone of the value of the key, as `get_or_insert_with` does, where `make` may fail. Then its error is returned, and nothing is inserted: the
+    /// call was a get.
+    pub fn try_get_or_insert_with<E: Drop, F: FnOnce() -> Result<V, E>, R: Wait>(
+        &self,
+        rt: &R,
+        key: K,
+        now: Instant,
+        make: F,
+    ) -> Result<V, TryInsertError<E>>
+        requires make { F.pre make }
+        requires holds { (value : V) → F.post make (Ok value) → P.rules.holds key value }
+        requires owns { (seat : ℕ) → P.rules.owns (guest seat) key }
+        ensures made { ByGuest {K = K} {V = V} {S = S} {W = W} self.now.plan (λ old new. TriesToInsert
+            (keys_by K.Hash S.BuildHasher S.Hasher.Hasher) W.weighs P.rules self.now.plan V.is_clone (F.post make) old
+            (place_of self.now.plan (keys_by K.Hash S.BuildHasher S.Hasher.Hasher) key) key now result new) }
+    {
+        let shared = &*self.shared;
+        let mut caller = come(&shared.table.shared);
+        make::try_get_or_insert_with(rt, shared, &mut caller, key, now, make, &mut NoListener)
     }
 }
 

@@ -1,12 +1,12 @@
 //! Sessions: who calls a cache of segments, and knows what it called.
-ghost use Rattle.std.specs.Prelude.{◌≡◌, IfOk};
+ghost use Rattle.std.specs.Prelude.{◌≡◌, Ok, IfOk};
 ghost use Rattle.moka_common.specs.Keys.{keys_by};
 ghost use Rattle.moka_unsync_model.specs.Step.{Done, EntryCount, Invalidate, InvalidateAll, WeightedSize};
 ghost use Rattle.moka_segments.specs.Calls.{Makes, MakesAll, Sums};
 ghost use Rattle.moka_row.specs.Kept.{Hears};
 ghost use Rattle.moka_segments.specs.Notifying.{TellsAt, TellsEach};
 ghost use Rattle.moka_segments.specs.Plan.{place_of};
-ghost use Rattle.moka_segments.specs.Tells.{Gets, GetsOrInserts, Inserts, Looks, Peeks, Removes};
+ghost use Rattle.moka_segments.specs.Tells.{Gets, GetsOrInserts, Inserts, Looks, Peeks, Removes, TriesToInsert};
 ghost use Rattle.moka_segments.specs.TellsAll.{InvalidatesAllIf, TellsSnapshot};
 
 mod listener;
@@ -25,6 +25,7 @@ use moka_common::policy::Policy;
 use moka_common::time::Instant;
 use moka_common::weigh::UnitWeight;
 use moka_row::seats;
+use moka_unsync::error::TryInsertError;
 use moka_unsync_model::listener::{Listener, NoListener};
 use std::alloc::Global;
 use std::hash::{BuildHasher, Hash};
@@ -147,6 +148,36 @@ impl<
             self.new.listener }
     {
         make::get_or_insert_with(
+            rt,
+            &*self.shared,
+            &mut self.caller,
+            key,
+            now,
+            make,
+            &mut self.listener,
+        )
+    }
+
+    /// Returns a clone of the value of the key, as `get_or_insert_with` does, where `make` may fail. Then its error is returned, and nothing is inserted: the
+    /// call was a get.
+    pub fn try_get_or_insert_with<E: Drop, F: FnOnce() -> Result<V, E>, R: Wait>(
+        &mut self,
+        rt: &R,
+        key: K,
+        now: Instant,
+        make: F,
+    ) -> Result<V, TryInsertError<E>>
+        requires make { F.pre make }
+        requires holds { (value : V) → F.post make (Ok value) → P.rules.holds key value }
+        requires owns { P.rules.owns self.old.knows.by key }
+        ensures same { self.new.cache ≡ self.old.cache }
+        ensures made { TriesToInsert (keys_by K.Hash S.BuildHasher S.Hasher.Hasher) W.weighs P.rules self.old.cache.plan V.is_clone
+            (F.post make) self.old.knows (place_of self.old.cache.plan (keys_by K.Hash S.BuildHasher S.Hasher.Hasher) key) key now result
+            self.new.knows }
+        ensures told { TellsAt L.hears (keys_by K.Hash S.BuildHasher S.Hasher.Hasher) self.old.cache.plan key self.new.knows self.old.listener
+            self.new.listener }
+    {
+        make::try_get_or_insert_with(
             rt,
             &*self.shared,
             &mut self.caller,

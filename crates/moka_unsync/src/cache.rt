@@ -3,6 +3,7 @@ ghost use Rattle.std.specs.Prelude.{◌≡◌, ◌<◌, ◌≤◌, ◌^◌, [], 
 ghost use Rattle.std.specs.Prelude.{IfErr, IfOk, option_copied, option_map};
 ghost use Rattle.std.specs.Map.Iter.{deref_pair};
 ghost use Rattle.moka_common.specs.Keys.{keys_by};
+ghost use Rattle.moka_common.specs.Sketch.{estimate};
 ghost use Rattle.moka_unsync.specs.Builder.{new_builder, reserved};
 ghost use Rattle.moka_unsync_model.specs.CacheState.{new_cache, window_limit};
 ghost use Rattle.moka_unsync_model.specs.Contents.{entry_at, weighted_size};
@@ -295,6 +296,14 @@ impl<
         ensures { result ≡ weighted_size self.now.contents.entries }
     {
         self.store.weight()
+    }
+
+    /// Returns how often the key was asked for recently, as admission counts it: from 0 to 15, halved from time to time. The key may be absent. It is no
+    /// access.
+    pub fn popularity(&self, key: &K) -> u8
+        ensures { result ≡ estimate self.now.sketch ((keys_by K.Hash S.BuildHasher S.Hasher.Hasher).hash_of self.now.settings.hash_state key.now) }
+    {
+        self.sketch.frequency(self.hash_state.hash_one(key))
     }
 
     /// Returns the value of the key's unexpired entry, if there is one. It doesn't count as an access, and removes nothing, so it still finds an entry that a

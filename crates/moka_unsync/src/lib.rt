@@ -5,6 +5,7 @@ mod admission;
 pub mod builder;
 pub mod cache;
 mod cleanup;
+pub mod error;
 mod leaving;
 mod memory;
 pub mod notifying_cache;

@@ -1,5 +1,5 @@
 //! A cache for one thread that gives a listener each entry that leaves.
-ghost use Rattle.std.specs.Prelude.{◌≡◌, ◌⊎◌, ⊤, Bool, List, [], None, IfErr, IfOk, OnErr, OnOk, option_copied};
+ghost use Rattle.std.specs.Prelude.{◌≡◌, ◌⊎◌, ⊤, Bool, List, [], None, Ok, IfErr, IfOk, OnErr, OnOk, option_copied};
 ghost use Rattle.std.specs.Borrow.{sem};
 ghost use Rattle.moka_common.specs.Keys.{keys_by};
 ghost use Rattle.moka_unsync_model.specs.GetOrInsert.{IsGotOrInserted, IsRefusedBehind};
@@ -8,9 +8,11 @@ ghost use Rattle.moka_unsync_model.specs.Invalidate.{AnswersInTurn, after_invali
 ghost use Rattle.moka_unsync_model.specs.Lookup.{after_get, after_look, found_by_get, is_contained};
 ghost use Rattle.moka_unsync_model.specs.Told.{TellsWhatLeft};
 ghost use Rattle.moka_unsync_model.specs.ToldCalls.{TellsGot, TellsInsert, TellsInvalidate, TellsLook, TellsRemove};
+ghost use Rattle.moka_unsync.specs.Trying.{IsOnlyAGet};
 ghost use Rattle.moka_unsync_model.specs.declared.listener.Cause.TheVariants.{Explicit};
 
 use crate::cache::Cache;
+use crate::error::TryInsertError;
 use moka_common::error::InsertError;
 use moka_common::hash::FixedState;
 use moka_common::time::Instant;
@@ -246,5 +248,31 @@ impl<
         let hash = self.cache.hash_of(&key);
         self.cache
             .get_or_insert_notifying(key, hash, now, make, &mut self.listener)
+    }
+
+    /// Returns a clone of the value of the key, as `Cache::try_get_or_insert_with` does. If it fails, the listener gets what the get had to remove.
+    pub fn try_get_or_insert_with<E: Drop, F: FnOnce() -> Result<V, E>>(
+        &mut self,
+        key: K,
+        now: Instant,
+        make: F,
+    ) -> Result<V, TryInsertError<E>>
+        requires ready { W.ready self.old.cache.weigher }
+        requires make { found_by_get (keys_by K.Hash S.BuildHasher S.Hasher.Hasher) self.old.cache key now ≡ None → F.pre make }
+        ensures ok { IfOk result (λ copy. (value : V) × V.is_clone value copy
+            × IsGotOrInserted (keys_by K.Hash S.BuildHasher S.Hasher.Hasher) self.old.cache key now W.weighs (λ made. F.post make (Ok made)) value
+            self.new.cache) }
+        ensures err { IfErr result (λ error. IsOnlyAGet (F.post make) V.is_infallible (keys_by K.Hash S.BuildHasher S.Hasher.Hasher)
+            self.old.cache key now error self.new.cache) }
+        ensures ready { W.ready self.new.cache.weigher }
+        ensures told { OnOk result (TellsGot L.hears (keys_by K.Hash S.BuildHasher S.Hasher.Hasher) self.old.cache now
+            (found_by_get (keys_by K.Hash S.BuildHasher S.Hasher.Hasher) self.old.cache key now) key self.new.cache
+            self.old.listener self.new.listener) }
+        ensures looked { OnErr result (TellsLook L.hears (keys_by K.Hash S.BuildHasher S.Hasher.Hasher) self.old.cache now
+            self.old.listener self.new.listener) }
+    {
+        let hash = self.cache.hash_of(&key);
+        self.cache
+            .try_get_or_insert_notifying(key, hash, now, make, &mut self.listener)
     }
 }

@@ -60,6 +60,17 @@ fn a_notifying_cache_answers_as_a_cache(rt: HostRuntime) -> Result<(), Fail> {
     Ok(())
 }
 
+// The entry of 0 is over when its make fails, so it expires; 1 is over when its value is made.
+#[test]
+fn a_listener_gets_what_a_failed_make_finds_expired(rt: HostRuntime) -> Result<(), Fail> {
+    let mut cache = squares(rt.alloc())?;
+    let failed = cache.try_get_or_insert_with(0, at(10), || Err(()));
+    assert_eq!(rt; (failed.is_err(), digits(cache.listener())), (true, 1000));
+    let made = cache.try_get_or_insert_with(1, at(11), || Ok::<u64, ()>(8));
+    assert_eq!(rt; (made, digits(cache.listener())), (Ok(8), 2000));
+    Ok(())
+}
+
 // 3 gets another value, 0 and 2 are invalidated, 1 is over at 11, and 3 is left to the end.
 #[test]
 fn a_listener_counts_each_entry_that_leaves(rt: HostRuntime) -> Result<(), Fail> {

@@ -2,6 +2,7 @@
 use moka_common::error::InsertError;
 use moka_common::time::Instant;
 use moka_unsync::cache::Cache;
+use moka_unsync::error::TryInsertError;
 use std::alloc::Global;
 use std::cell::Cell;
 use std::test::Fail;
@@ -122,6 +123,40 @@ fn a_get_or_insert_makes_nothing_at_a_hit(rt: HostRuntime) -> Result<(), Fail> {
     Ok(())
 }
 
+// Counting begins when the cache is half full. A look and a peek count nothing, and an absent key is counted too.
+#[test]
+fn a_key_is_as_popular_as_it_was_asked_for(rt: HostRuntime) -> Result<(), Fail> {
+    let mut young: Cache<u64, u64> = Cache::new(rt.alloc(), 100)?;
+    let _ = young.get(&0, at(0));
+    let mut cache = squares(rt.alloc())?;
+    for key in [0, 0, 0, 9] {
+        let _ = cache.get(&key, at(4));
+    }
+    let _ = (cache.contains_key(&1, at(4)), cache.peek(&1, at(4)));
+    let found = [0, 1, 9].map(|key| cache.popularity(&key));
+    assert_eq!(rt; (young.popularity(&0), found), (0, [3, 0, 1]));
+    Ok(())
+}
+
+// A failed make leaves no entry. Then the value is made, and its entry is admitted in place of that of 0, for which nobody has asked.
+#[test]
+fn a_failed_make_inserts_nothing(rt: HostRuntime) -> Result<(), Fail> {
+    let mut cache = squares(rt.alloc())?;
+    let found = [
+        cache.try_get_or_insert_with(3, at(4), || Err("not asked")),
+        cache.try_get_or_insert_with(9, at(4), || Err("no square")),
+    ];
+    assert_eq!(rt; found, [Ok(9), Err(TryInsertError::Make("no square"))]);
+    assert_eq!(rt;
+        (cache.contains_key(&9, at(4)), cache.entry_count()),
+        (false, 4)
+    );
+    let made = cache.try_get_or_insert_with(9, at(4), || Ok::<u64, &str>(81));
+    let again = cache.try_get_or_insert_with(9, at(4), || Err("made before"));
+    assert_eq!(rt; (made, again), (Ok(81), Ok(81)));
+    Ok(())
+}
+
 /// A get or insert on a heap that refuses answers what was made and has an entry, or is refused and has none.
 fn play(heap: &RefusingHeap<Global>) -> Result<(), &'static str> {
     let Ok(mut cache) = Cache::new(heap, 10) else {
@@ -138,6 +173,31 @@ fn play(heap: &RefusingHeap<Global>) -> Result<(), &'static str> {
     } else {
         Err("a get or insert is made or refused")
     }
+}
+
+/// Plays the same with a make that may fail.
+fn try_play(heap: &RefusingHeap<Global>) -> Result<(), &'static str> {
+    let Ok(mut cache) = Cache::new(heap, 10) else {
+        return Ok(());
+    };
+    let made = cache.try_get_or_insert_with(7u64, at(0), || Ok::<u64, ()>(49));
+    let wanted = if heap.refused() == 0 {
+        (Ok(49), 1)
+    } else {
+        (Err(TryInsertError::OutOfMemory), 0)
+    };
+    if (made, cache.entry_count()) == wanted {
+        Ok(())
+    } else {
+        Err("a get or insert whose make may fail is made or refused")
+    }
+}
+
+#[test]
+fn a_try_get_or_insert_is_made_or_refused(rt: HostRuntime) -> Result<(), Fail> {
+    let plays = for_each_refusal(rt.alloc(), rt.alloc(), BOUND, |heap| try_play(heap))?;
+    assert!(rt; plays > 0);
+    Ok(())
 }
 
 #[test]

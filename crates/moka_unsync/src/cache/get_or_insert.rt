@@ -1,11 +1,13 @@
 // A get that inserts what it misses.
-ghost use Rattle.std.specs.Prelude.{◌≡◌, ◌⊎◌, None, IfErr, IfOk, OnErr, OnOk};
+ghost use Rattle.std.specs.Prelude.{◌≡◌, ◌⊎◌, None, Ok, IfErr, IfOk, OnErr, OnOk};
 ghost use Rattle.moka_common.specs.Keys.{keys_by};
 ghost use Rattle.moka_unsync_model.specs.GetOrInsert.{IsGotOrInserted, IsRefusedBehind};
 ghost use Rattle.moka_unsync_model.specs.Lookup.{after_get, found_by_get};
 ghost use Rattle.moka_unsync_model.specs.ToldCalls.{TellsGot, TellsLook};
+ghost use Rattle.moka_unsync.specs.Trying.{IsOnlyAGet};
 
 use crate::cache::Cache;
+use crate::error::TryInsertError;
 use moka_common::error::InsertError;
 use moka_common::time::Instant;
 use moka_common::weigh::Weigh;
@@ -81,6 +83,73 @@ impl<
         let copy = copy_of(&value)?;
         self.insert_notifying(key, hash, value, now, listener)?;
         Ok(copy)
+    }
+
+    /// Returns a clone of the key's value, as `get_or_insert_with` does, where `make` may fail. Then its error is returned, and nothing is inserted: the call
+    /// was a get.
+    ///
+    /// ```
+    /// let make = || if number % 2 == 0 { Ok(number / 2) } else { Err(Odd) };
+    /// let half = cache.try_get_or_insert_with(number, now, make);
+    /// ```
+    pub fn try_get_or_insert_with<E: Drop, F: FnOnce() -> Result<V, E>>(
+        &mut self,
+        key: K,
+        now: Instant,
+        make: F,
+    ) -> Result<V, TryInsertError<E>>
+        requires ready { W.ready self.old.weigher }
+        requires make { found_by_get (keys_by K.Hash S.BuildHasher S.Hasher.Hasher) self.old key now ≡ None → F.pre make }
+        ensures ok { IfOk result (λ copy. (value : V) × V.is_clone value copy
+            × IsGotOrInserted (keys_by K.Hash S.BuildHasher S.Hasher.Hasher) self.old key now W.weighs (λ made. F.post make (Ok made)) value
+            self.new) }
+        ensures err { IfErr result (λ error. IsOnlyAGet (F.post make) V.is_infallible (keys_by K.Hash S.BuildHasher S.Hasher.Hasher)
+            self.old key now error self.new) }
+        ensures ready { W.ready self.new.weigher }
+    {
+        let hash = self.hash_state.hash_one(&key);
+        self.try_get_or_insert_notifying(key, hash, now, make, &mut NoListener)
+    }
+
+    /// Returns a clone of the key's value, as `try_get_or_insert_with` does, by the key's hash. If it fails, the listener gets what the get had to remove.
+    pub fn try_get_or_insert_notifying<E: Drop, F: FnOnce() -> Result<V, E>, L: Listener<K, V>>(
+        &mut self,
+        key: K,
+        hash: u64,
+        now: Instant,
+        make: F,
+        listener: &mut L,
+    ) -> Result<V, TryInsertError<E>>
+        requires hashed { hash ≡ (keys_by K.Hash S.BuildHasher S.Hasher.Hasher).hash_of self.old.settings.hash_state key }
+        requires ready { W.ready self.old.weigher }
+        requires make { found_by_get (keys_by K.Hash S.BuildHasher S.Hasher.Hasher) self.old key now ≡ None → F.pre make }
+        ensures ok { IfOk result (λ copy. (value : V) × V.is_clone value copy
+            × IsGotOrInserted (keys_by K.Hash S.BuildHasher S.Hasher.Hasher) self.old key now W.weighs (λ made. F.post make (Ok made)) value
+            self.new) }
+        ensures err { IfErr result (λ error. IsOnlyAGet (F.post make) V.is_infallible (keys_by K.Hash S.BuildHasher S.Hasher.Hasher)
+            self.old key now error self.new) }
+        ensures ready { W.ready self.new.weigher }
+        ensures told { OnOk result (TellsGot L.hears (keys_by K.Hash S.BuildHasher S.Hasher.Hasher) self.old now
+            (found_by_get (keys_by K.Hash S.BuildHasher S.Hasher.Hasher) self.old key now) key self.new listener.old listener.new) }
+        ensures looked { OnErr result (TellsLook L.hears (keys_by K.Hash S.BuildHasher S.Hasher.Hasher) self.old now listener.old listener.new) }
+    {
+        if let Some(value) = self.get_notifying(&key, hash, now, listener) {
+            return match copy_of(value) {
+                Ok(copy) => Ok(copy),
+                Err(_) => Err(TryInsertError::OutOfMemory),
+            };
+        }
+        let value = match make() {
+            Ok(value) => value,
+            Err(error) => return Err(TryInsertError::Make(error)),
+        };
+        let Ok(copy) = copy_of(&value) else {
+            return Err(TryInsertError::OutOfMemory);
+        };
+        match self.insert_notifying(key, hash, value, now, listener) {
+            Ok(()) => Ok(copy),
+            Err(_) => Err(TryInsertError::OutOfMemory),
+        }
     }
 }
 

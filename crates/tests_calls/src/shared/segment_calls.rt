@@ -8,12 +8,16 @@ use moka_segments::cache::SegmentedCache;
 use moka_segments::error::BuildError;
 use moka_segments::own::both;
 use moka_segments::weigher::Weighing;
+use moka_unsync::error::TryInsertError;
 use std::alloc::Global;
 use std::sync::Wait;
 use std::test::Fail;
 use std::time::Duration;
 
 type Numbers = SegmentedCache<u64, u64>;
+
+/// A number that is found or made, or the number of the attempt that failed.
+type Tried = Result<u64, TryInsertError<u32>>;
 
 fn numbers(alloc: Global, limit: u64, count: usize) -> Result<Numbers, BuildError> {
     Numbers::builder(alloc)
@@ -80,6 +84,18 @@ fn made<R: Wait>(rt: &R, alloc: Global) -> Result<(u64, u64, u64), Fail> {
     let second = cache.get_or_insert_with(rt, 7, now, || 50)?;
     let third = cache.get_or_insert_with(rt, 8, now, || 64)?;
     Ok((first, second, third))
+}
+
+/// Fails to make a value, and is then asked for it by the cache and by the session.
+fn tried<R: Wait>(rt: &R, alloc: Global) -> Result<(Tried, bool, Tried, Tried), Fail> {
+    let cache = numbers(alloc, 1000, 4)?;
+    let mut session = cache.session()?;
+    let now = Instant::from_nanos(0);
+    let failed = session.try_get_or_insert_with(rt, 7, now, || Err(1));
+    let there = session.contains_key(rt, &7, now);
+    let made = cache.try_get_or_insert_with(rt, 7, now, || Ok(49));
+    let again = session.try_get_or_insert_with(rt, 7, now, || Err(2));
+    Ok((failed, there, made, again))
 }
 
 fn chosen<R: Wait>(rt: &R, alloc: Global) -> Result<(u64, bool, bool), Fail> {
@@ -185,6 +201,16 @@ fn removals_remove(rt: HostRuntime) -> Result<(), Fail> {
 #[test]
 fn a_value_is_made_once(rt: HostRuntime) -> Result<(), Fail> {
     assert_eq!(rt; made(&rt, rt.alloc())?, (49, 49, 64));
+    Ok(())
+}
+
+#[test]
+fn a_value_that_could_not_be_made_is_made_later(rt: HostRuntime) -> Result<(), Fail> {
+    let found = tried(&rt, rt.alloc())?;
+    assert_eq!(rt;
+        found,
+        (Err(TryInsertError::Make(1)), false, Ok(49), Ok(49))
+    );
     Ok(())
 }
 

@@ -41,7 +41,7 @@ fn told<R: Wait>(rt: &R, alloc: Global) -> Result<[Option<Option<u64>>; 2], Fail
     Ok([own, other])
 }
 
-/// Hides what was written before the moment 5 in one session, and looks there, in a session that learns a note of it, and in the cache.
+/// Hides what was written before the moment 5 in one session. Looks there, in one that learns of it, and in the cache.
 fn hidden<R: Wait>(
     rt: &R,
     alloc: Global,

@@ -5,7 +5,7 @@ use mini_moka::unsync::{Cache, Call};
 use moka_examples::calling::{is_found_after, minute_cache, take_out};
 use moka_examples::pages::Pages;
 use moka_examples::uses::{
-    count_after_calls, counts_of_what_left, found_within_ten_seconds, least_recently_used,
+    count_after_calls, counts_of_what_left, found_within_ten_seconds, half_of, least_recently_used,
     left_of_64, millis_after_noon, remember, square_of_seven, weight_in_bytes,
 };
 use std::alloc::Global;
@@ -28,6 +28,8 @@ fn examples_for_one_thread_give_what_they_say(rt: HostRuntime) -> Result<(), Fai
     assert_eq!(rt; found, (Some(1), (true, false), (true, true, 31)));
     assert_eq!(rt; (others, weight), ((Some(1), Some(1)), 5));
     assert_eq!(rt; square_of_seven(alloc)?, [49, 49]);
+    assert_eq!(rt; half_of(alloc, 8)?, (Some(4), Some(4)));
+    assert_eq!(rt; half_of(alloc, 9)?, (None, None));
     assert_eq!(rt; counts_of_what_left(alloc)?, [1, 1, 1, 1, 1]);
     assert_eq!(rt; millis_after_noon(), 43_201_500);
     Ok(())

@@ -1,0 +1,21 @@
+use Rattle.std.proofs.Common.{ap, rules}
+use Rattle.moka_common.specs.Keys.{Keys, keys_by}
+use Rattle.moka_segments.specs.declared.plan.Plan.{Plan}
+use Rattle.moka_segments.specs.History.{Knows}
+use Rattle.moka_segments.specs.Plan.{place_of}
+use Rattle.moka_segments.specs.Tells.{TriesToInsert}
+use Rattle.moka_segments.proofs.SessionLemmas.{by_guest}
+use Rattle.moka_segments.proofs.cache.SegmentedCache.try_get_or_insert_with.Given.{Over}
+use Rattle.moka_segments.proofs.cache.SegmentedCache.try_get_or_insert_with.Goals as goal
+
+abbrev keys_of : (g : Over) → Keys g.row.K.Denot g.row.S.Denot
+keys_of g = keys_by (record { eq = g.K.PartialEq.eq; hash_input = g.K.Hash.hash_input }) g.S.BuildHasher g.S.Hasher.Hasher
+
+pub returns : goal.returns
+returns g c = record {
+  made = by_guest (λ (p : Plan g.row.S.Denot) (v w : Knows g.row.K.Denot g.row.V.Denot g.row.S.Denot g.row.W.Denot). TriesToInsert
+      (keys_of g) g.W.Weighing.weighs g.P.Rule.rules p g.V.Clone.is_clone (goal.F-post g c.args.make) v (place_of p
+      (keys_of g) c.args.key) c.args.key c.args.now c.try_get_or_insert_with.result w)
+      c.deref-shared.result.now.table.shared.key c.args.self.now.plan c.come-caller.ensures.new.0 c.come-caller.result.me.0 c.try_get_or_insert_with.new.me.me.0
+      (ap (λ m. m.0) c.come-caller.ensures.new.1) (search rules) c.try_get_or_insert_with.ensures.made;
+}
