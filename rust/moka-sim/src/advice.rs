@@ -72,8 +72,13 @@ fn best<'a>(outcomes: &[&'a Outcome], capacity: u64) -> Option<&'a Outcome> {
     })
 }
 
-/// Returns the sentence, for a trace of so many requests.
-pub fn sentence(advice: Option<Advice>, requests: u64, is_weighed: bool) -> String {
+/// Returns the sentence, for a trace of so many requests, and for entries that live so many nanoseconds.
+pub fn sentence(
+    advice: Option<Advice>,
+    requests: u64,
+    is_weighed: bool,
+    time_to_live: Option<u64>,
+) -> String {
     let Some(advice) = advice else {
         return "There is nothing to choose: no cache that a program can have had a hit."
             .to_owned();
@@ -83,7 +88,7 @@ pub fn sentence(advice: Option<Advice>, requests: u64, is_weighed: bool) -> Stri
         "Choose a capacity of {}{unit} with `{}` ({}): {} of the requests hit",
         grouped(advice.capacity),
         advice.setting.name(),
-        call(advice, is_weighed),
+        call(advice, is_weighed, time_to_live),
         percent(advice.hits, requests),
     );
     let reason = if advice.capacity == advice.largest {
@@ -101,13 +106,16 @@ pub fn sentence(advice: Option<Advice>, requests: u64, is_weighed: bool) -> Stri
 }
 
 /// Returns the call in Rust that makes the cache.
-fn call(advice: Advice, is_weighed: bool) -> String {
+fn call(advice: Advice, is_weighed: bool, time_to_live: Option<u64>) -> String {
     let (cache, weigh) = match is_weighed {
         true => ("ByteCache", ".weigh_bytes()"),
         false => ("Cache", ""),
     };
+    let live = time_to_live.map_or(String::new(), |nanoseconds| {
+        format!(".time_to_live({})", duration(nanoseconds))
+    });
     let built = format!(
-        "{cache}::builder().max_capacity({}){weigh}",
+        "{cache}::builder().max_capacity({}){weigh}{live}",
         advice.capacity
     );
     match advice.setting {
@@ -118,6 +126,18 @@ fn call(advice: Advice, is_weighed: bool) -> String {
         Setting::Segments => format!("sync::{built}"),
         Setting::Lru | Setting::Belady => "not a cache of this library".to_owned(),
     }
+}
+
+/// Returns the call in Rust that makes a duration, in the largest unit of which it is a whole number.
+fn duration(nanoseconds: u64) -> String {
+    let units = [
+        ("secs", 1_000_000_000),
+        ("millis", 1_000_000),
+        ("micros", 1_000),
+    ];
+    let unit = units.iter().find(|(_, unit)| nanoseconds % unit == 0);
+    let (name, unit) = unit.copied().unwrap_or(("nanos", 1));
+    format!("Duration::from_{name}({})", nanoseconds / unit)
 }
 
 #[cfg(test)]
@@ -155,7 +175,7 @@ mod tests {
     }
     #[test]
     fn the_call_is_that_of_the_cache_that_was_played() {
-        let called = |setting, is_weighed| {
+        let called = |setting, is_weighed, time_to_live| {
             let advice = Advice {
                 setting,
                 capacity: 7,
@@ -164,7 +184,7 @@ mod tests {
                 most: 1,
                 lru: None,
             };
-            call(advice, is_weighed)
+            call(advice, is_weighed, time_to_live)
         };
         let calls = [
             (Setting::Default, "Cache::builder().max_capacity(7)"),
@@ -183,10 +203,19 @@ mod tests {
             (Setting::Segments, "sync::Cache::builder().max_capacity(7)"),
         ];
         for (setting, wanted) in calls {
-            assert_eq!(called(setting, false), wanted);
+            assert_eq!(called(setting, false, None), wanted);
+            let live = wanted.replace("(7)", "(7).time_to_live(Duration::from_secs(60))");
+            assert_eq!(called(setting, false, Some(60_000_000_000)), live);
             let weighed = wanted.replace("Cache", "ByteCache");
             let weighed = weighed.replace("(7)", "(7).weigh_bytes()");
-            assert_eq!(called(setting, true), weighed);
+            assert_eq!(called(setting, true, None), weighed);
         }
+    }
+
+    #[test]
+    fn a_duration_is_written_in_its_largest_unit() {
+        let written = [60_000_000_000, 1_500_000_000, 2_000, 7].map(duration);
+        let wanted = ["secs(60)", "millis(1500)", "micros(2)", "nanos(7)"];
+        assert_eq!(written, wanted.map(|call| format!("Duration::from_{call}")));
     }
 }

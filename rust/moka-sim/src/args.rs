@@ -80,6 +80,7 @@ pub enum Usage {
     Files(String),
     NoKeyColumn,
     Columns,
+    NamedColumns,
 }
 
 impl fmt::Display for Usage {
@@ -97,6 +98,9 @@ impl fmt::Display for Usage {
             Usage::Files(name) => write!(f, "one trace at a time: `{name}` is too many"),
             Usage::NoKeyColumn => f.write_str("--columns has no column `key`"),
             Usage::Columns => f.write_str("--columns isn't for this format: its columns are fixed"),
+            Usage::NamedColumns => {
+                f.write_str("--columns has names, and only --format csv has a header")
+            }
         }
     }
 }
@@ -189,7 +193,11 @@ fn play(arguments: &[String]) -> Result<Command, Usage> {
         match argument {
             "--capacity" => options.capacities = list(left.value("--capacity")?, capacity)?,
             "--settings" => options.settings = list(left.value("--settings")?, setting)?,
-            "--columns" => options.plan.names = columns(left.value("--columns")?)?,
+            "--columns" => {
+                let text = left.value("--columns")?;
+                options.plan.names = columns(text)?;
+                options.plan.has_header = text.contains('=');
+            }
             "--format" => options.plan.format = Some(format(left.value("--format")?)?),
             "--entries" => options.counts_entries = true,
             "--ttl" => options.time_to_live = Some(duration(left.value("--ttl")?)?),
@@ -212,6 +220,7 @@ fn defaults() -> Options {
         plan: Plan {
             format: None,
             names: Vec::new(),
+            has_header: false,
             has_times: false,
             unit: Unit::SECOND,
         },
@@ -237,6 +246,12 @@ fn finished(mut options: Options) -> Result<Command, Usage> {
             .into_iter()
             .find(|(end, _)| file.ends_with(end))
             .map(|(_, format)| format);
+    }
+    if options.plan.has_header && options.plan.format.is_none() {
+        options.plan.format = Some(Format::Csv);
+    }
+    if options.plan.has_header && options.plan.format == Some(Format::Columns) {
+        return Err(Usage::NamedColumns);
     }
     let is_fixed = matches!(
         options.plan.format,

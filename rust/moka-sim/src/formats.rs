@@ -54,7 +54,10 @@ pub enum Reason {
     Backwards,
     Blocks,
     Ambiguous,
-    Header(String),
+    Header {
+        name: String,
+        columns: String,
+    },
     Memory,
     Requests,
 }
@@ -86,7 +89,9 @@ impl fmt::Display for Reason {
             Reason::Ambiguous => f.write_str(
                 "it has several columns; name them with --columns, or say --format lines if the whole line is the key",
             ),
-            Reason::Header(name) => write!(f, "the header has no column `{name}`"),
+            Reason::Header { name, columns } => {
+                write!(f, "the header has no column `{name}`; it has {columns}")
+            }
             Reason::Memory => f.write_str("the trace doesn't fit into memory"),
             Reason::Requests => write!(f, "the trace has more than {MOST} requests"),
         }
@@ -223,6 +228,6 @@ fn size(field: &[u8]) -> Result<u32, Reason> {
 }
 
 /// Returns the start of a field, for a message.
-fn shown(field: &[u8]) -> String {
+pub fn shown(field: &[u8]) -> String {
     String::from_utf8_lossy(&field[..field.len().min(40)]).into_owned()
 }

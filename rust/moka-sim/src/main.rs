@@ -95,7 +95,12 @@ fn run(options: &Options) -> Result<(), RunError> {
             error,
         })?;
     }
-    let sentence = sentence(report.advice, report.requests, is_weighed);
+    let sentence = sentence(
+        report.advice,
+        report.requests,
+        is_weighed,
+        report.time_to_live,
+    );
     match options.output {
         Output::Table => print(&format!("{}\n{sentence}\n", report.table())),
         Output::Csv => print(&report.csv()).map(|()| eprintln!("{sentence}")),

@@ -1,8 +1,9 @@
 //! Reads a trace line by line.
 
 use crate::fields::{csv_fields, trimmed, Unit};
-use crate::formats::{Columns, Format, Parser, Reason};
+use crate::formats::{shown, Columns, Format, Parser, Reason};
 use crate::trace::Trace;
+use std::borrow::Cow;
 use std::fmt;
 use std::io::{self, BufRead, Read};
 
@@ -16,6 +17,8 @@ pub struct Plan {
     pub format: Option<Format>,
     /// The names of the columns in order, or for CSV what each part is called in the header.
     pub names: Vec<(Part, String)>,
+    /// True if a name was given to a part, so the trace has a header.
+    pub has_header: bool,
     pub has_times: bool,
     pub unit: Unit,
 }
@@ -48,9 +51,9 @@ impl fmt::Display for ReadError {
                 write!(f, "the trace is compressed: {tool} FILE | ./moka_sim")
             }
             ReadError::Empty => f.write_str("the trace has no request"),
-            ReadError::NoTimes => {
-                f.write_str("--ttl needs a column of times, as --columns key,time")
-            }
+            ReadError::NoTimes => f.write_str(
+                "--ttl needs a column of times, as --columns key,time or key=NAME,time=NAME",
+            ),
             ReadError::Memory => f.write_str("there is no memory for a trace"),
             ReadError::Line { number, reason } => write!(f, "line {number} of the trace: {reason}"),
         }
@@ -211,7 +214,10 @@ fn header(plan: &Plan, first: &[u8]) -> Result<Columns, Reason> {
             .iter()
             .position(|column| column.eq_ignore_ascii_case(name.as_bytes()));
         if at.is_none() && (part == Part::Key || named.is_some()) {
-            return Err(Reason::Header(name.to_owned()));
+            return Err(Reason::Header {
+                name: name.to_owned(),
+                columns: listed(&names),
+            });
         }
         Ok(at)
     };
@@ -220,4 +226,18 @@ fn header(plan: &Plan, first: &[u8]) -> Result<Columns, Reason> {
         size: find(Part::Size, "size")?,
         time: find(Part::Time, "time")?,
     })
+}
+
+/// Lists the names of a header, at most twenty.
+fn listed(names: &[Cow<'_, [u8]>]) -> String {
+    let most = 20;
+    let mut quoted: Vec<String> = names
+        .iter()
+        .take(most)
+        .map(|name| format!("`{}`", shown(name)))
+        .collect();
+    if names.len() > most {
+        quoted.push("..".to_owned());
+    }
+    quoted.join(", ")
 }

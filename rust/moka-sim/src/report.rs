@@ -11,6 +11,8 @@ pub struct Report<'a> {
     pub keys: u64,
     /// The bytes of all requests, if there is a column of sizes.
     pub bytes: Option<u64>,
+    /// The bytes of an entry of each key then, unless memory to count them is refused.
+    pub footprint: Option<u64>,
     pub is_weighed: bool,
     pub time_to_live: Option<u64>,
     pub outcomes: &'a [Outcome],
@@ -29,6 +31,7 @@ impl<'a> Report<'a> {
             requests: trace.len() as u64,
             keys: trace.keys.len() as u64,
             bytes: sizes.map(|sizes| sizes.iter().map(|size| u64::from(*size)).sum()),
+            footprint: sizes.and_then(|_| trace.footprint().ok()),
             is_weighed,
             time_to_live,
             outcomes,
@@ -45,6 +48,9 @@ impl<'a> Report<'a> {
         );
         if let Some(bytes) = self.bytes {
             out += &format!(", {} bytes", grouped(bytes));
+        }
+        if let Some(footprint) = self.footprint {
+            out += &format!(", all keys {} bytes", grouped(footprint));
         }
         let unit = if self.is_weighed { "bytes" } else { "entries" };
         out += &format!("; capacities in {unit}\n\n");

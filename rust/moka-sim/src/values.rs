@@ -28,7 +28,7 @@ pub fn columns(text: &str) -> Result<Vec<(Part, String)>, Usage> {
         let wrong = || Usage::Value {
             option: "--columns",
             value: item.to_owned(),
-            wanted: "key, size, time or -, each once",
+            wanted: "key, size, time or -, each once; key=NAME if a header names the columns",
         };
         let part = match part {
             "key" => Part::Key,

@@ -28,7 +28,7 @@ fn help_is_printed() {
 
 #[test]
 fn wrong_arguments_end_with_status_2_and_a_usage_line() {
-    let cases: [(&[&str], &str); 22] = [
+    let cases: [(&[&str], &str); 24] = [
         (&["--colour"], "there is no option `--colour`"),
         (&["--entries=5"], "there is no option `=5`"),
         (&["--svg"], "--svg needs a value"),
@@ -39,9 +39,11 @@ fn wrong_arguments_end_with_status_2_and_a_usage_line() {
         (&["--settings", "lru,window101"], "--settings `window101`: it must be of default, windowN, protectedN, adaptive, segments, lru, belady, with N from 0 to 100"),
         (&["--settings", "protected080"], "--settings `protected080`: it must be of default, windowN, protectedN, adaptive, segments, lru, belady, with N from 0 to 100"),
         (&["--format", "xml"], "--format `xml`: it must be lines, columns, csv, arc or lirs"),
-        (&["--columns", "key,key"], "--columns `key`: it must be key, size, time or -, each once"),
-        (&["--columns", "key,weight"], "--columns `weight`: it must be key, size, time or -, each once"),
+        (&["--columns", "key,key"], "--columns `key`: it must be key, size, time or -, each once; key=NAME if a header names the columns"),
+        (&["--columns", "key,weight"], "--columns `weight`: it must be key, size, time or -, each once; key=NAME if a header names the columns"),
         (&["--columns", "size"], "--columns has no column `key`"),
+        (&["--format", "columns", "--columns", "key=id"], "--columns has names, and only --format csv has a header"),
+        (&["--format", "lines", "--columns", "key=id"], "--columns isn't for this format: its columns are fixed"),
         (&["--format", "arc", "--columns", "key"], "--columns isn't for this format: its columns are fixed"),
         (&["--ttl", "0s"], "--ttl `0s`: it must be a time above 0 and below 584 years, as 30s, 5m or 100ms"),
         (&["--ttl", "30"], "--ttl `30`: it must be a time above 0 and below 584 years, as 30s, 5m or 100ms"),

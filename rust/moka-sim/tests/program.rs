@@ -48,7 +48,7 @@ fn the_table_has_columns_for_sizes_and_expirations() {
         "lru",
     ];
     let out = run(&arguments, b"a,30,1\nb,10,2\na,30,3\na,30,11\nb,10,11.5\n");
-    let table = "5 requests of 2 keys, 110 bytes; capacities in bytes
+    let table = "5 requests of 2 keys, 110 bytes, all keys 40 bytes; capacities in bytes
 
 capacity  settings  hits %  bytes %  evictions  rejections  expirations  window %
       20  lru        20.00     9.09          0           3            0         -
@@ -73,7 +73,9 @@ and no smaller capacity that was played has 99 of 100 of these hits, so a larger
     );
     let table = text(&out.stdout);
     assert!(
-        table.starts_with("3 requests of 2 keys, 70 bytes; capacities in entries\n"),
+        table.starts_with(
+            "3 requests of 2 keys, 70 bytes, all keys 40 bytes; capacities in entries\n"
+        ),
         "{table}"
     );
     assert!(

@@ -64,18 +64,17 @@ fn a_header_names_columns() {
     assert_eq!(requested(&read), ["a", "b,c"]);
     assert_eq!(read.sizes.as_deref(), Some(&[5, 6][..]));
     let csv = "at,id,length\n1,a,5\n3,b,6\n";
-    let named = [
-        "--format",
-        "csv",
-        "--columns",
-        "key=id,size=length,time=at",
-        "--ttl",
-        "9s",
-    ];
-    let read = trace(&named, csv);
-    assert_eq!(requested(&read), ["a", "b"]);
-    assert_eq!(read.sizes.as_deref(), Some(&[5, 6][..]));
-    assert_eq!(read.times.as_deref(), Some(&[0, 2_000_000_000][..]));
+    let names = ["--columns", "key=id,size=length,time=at", "--ttl", "9s"];
+    // Names imply a header, and so the format.
+    for format in [&[][..], &["--format", "csv"]] {
+        let read = trace(&[format, &names].concat(), csv);
+        assert_eq!(requested(&read), ["a", "b"]);
+        assert_eq!(read.sizes.as_deref(), Some(&[5, 6][..]));
+        assert_eq!(read.times.as_deref(), Some(&[0, 2_000_000_000][..]));
+    }
+    let read = trace(&["--columns", "size=length"], "length,KEY\n5,a\n");
+    assert_eq!(requested(&read), ["a"]);
+    assert_eq!(read.sizes.as_deref(), Some(&[5][..]));
     let read = trace(&["--format", "csv"], "key\na\n");
     assert_eq!((requested(&read), read.sizes), (vec!["a".to_owned()], None));
 }
@@ -136,12 +135,23 @@ fn a_bad_line_is_named() {
     refused(
         &["--format", "csv"],
         b"id,size\na,5\n",
-        "line 1 of the trace: the header has no column `key`",
+        "line 1 of the trace: the header has no column `key`; it has `id`, `size`",
     );
     refused(
         &["--columns", "key,size=length"],
         b"key,size\na,5\n",
-        "line 1 of the trace: the header has no column `length`",
+        "line 1 of the trace: the header has no column `length`; it has `key`, `size`",
+    );
+    let wide = (0..25).map(|column| format!("c{column},"));
+    let header = wide.collect::<String>() + "last\na,5\n";
+    let shown = (0..20).map(|column| format!("`c{column}`, "));
+    refused(
+        &["--columns", "key=id"],
+        header.as_bytes(),
+        &format!(
+            "line 1 of the trace: the header has no column `id`; it has {}..",
+            shown.collect::<String>()
+        ),
     );
     refused(
         &["--format", "arc"],
@@ -179,7 +189,7 @@ fn a_trace_that_is_no_trace_is_refused() {
     refused(
         &["--ttl", "1s"],
         b"a\n",
-        "--ttl needs a column of times, as --columns key,time",
+        "--ttl needs a column of times, as --columns key,time or key=NAME,time=NAME",
     );
     refused(
         &[],
