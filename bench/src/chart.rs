@@ -69,11 +69,14 @@ impl Scale {
     }
 }
 
-/// Returns the end of an axis from 0 with this number on it, in steps of 1, 2 or 5 times a power of ten.
+/// Steps of an axis, but for a power of ten.
+const ROUND: [f64; 10] = [1.0, 1.5, 2.0, 2.5, 3.0, 4.0, 5.0, 6.0, 8.0, 10.0];
+
+/// Returns the end of an axis from 0 with this number on it, in round steps.
 fn end_of(greatest: f64) -> f64 {
     let least = greatest.max(1e-9) / f64::from(STEPS);
     let power = 10f64.powf(least.log10().floor());
-    let step = [1.0, 2.0, 5.0, 10.0]
+    let step = ROUND
         .into_iter()
         .map(|factor| factor * power)
         .find(|step| *step >= least * 0.999)

@@ -50,7 +50,7 @@ const DRAWN: [Side; 4] = [
     Side::ClockedSegments,
     Side::ClockedPort,
     Side::Original,
-    Side::LockedOriginal,
+    Side::LockedPort,
 ];
 
 /// Calls a second of all threads.
