@@ -141,6 +141,9 @@ impl ByteBuilder {
     /// assert_eq!(cache.window_capacity(), 10);
     /// # Ok::<(), mini_moka_proved::BuildError>(())
     /// ```
+    ///
+    /// With [`weigh_bytes`](Self::weigh_bytes) the window grows by an entry's weight, and a small cache
+    /// may find fewer entries than with fixed shares. `moka_sim` compares them on your requests.
     pub fn adaptive(mut self) -> ByteBuilder {
         self.limits.shares = Shares::ADAPTIVE;
         self
