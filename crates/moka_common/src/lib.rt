@@ -7,6 +7,7 @@ pub mod frequency_sketch;
 pub mod hash;
 pub mod laws;
 pub mod limits;
+pub mod lookup;
 pub mod policy;
 pub mod settings;
 pub mod shared;
