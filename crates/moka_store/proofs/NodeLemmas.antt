@@ -9,7 +9,7 @@ use Rattle.std.specs.Map.{lookup, remove_entry, set_value, keys_of, values_of}
 use Rattle.moka_list.specs.Nodes.{AreApart}
 use Rattle.moka_unsync_model.specs.declared.entry.Entry.{Entry}
 use Rattle.moka_unsync_model.specs.declared.entry.Part.TheVariants.{Probation}
-use Rattle.moka_unsync_model.specs.Contents.{InOrder, entries_without, entry_at, entry_keys, is_before}
+use Rattle.moka_unsync_model.specs.Contents.{InOrder, entries_without, entry_at, entry_keys, entry_where, is_before}
 use Rattle.moka_unsync_model.proofs.PartLemmas.{order-filter, order-latest}
 use Rattle.moka_store.specs.Nodes.{AreKeyed, latest_node}
 use Rattle.moka_list.proofs.ItemLemmas.{lookup-other, nat_eq-same}
@@ -127,20 +127,20 @@ module _ {K V : Type 0} {eq : K → K → Bool} (laws : IsEquivalence eq) {nodes
           ]
 
 module _ {K V : Type 0} where
-  -- no node has a key of which there is no entry
-  pub key_absent : (eq : K → K → Bool) (key : K) (nodes : List (ℕ × Entry K V)) → entry_at eq key (values_of nodes) ≡ None
-      → (i : ℕ) (x : Entry K V) → lookup (nat_eq i) nodes ≡ Some x → eq key x.key ≡ false
-  key_absent eq key [] none i x h = not_none x (sym h)
-  key_absent eq key (p ∷ nodes) none i x h =
-      elim (cases_Bool (eq key p.1.key)) [
-        | inl equal ↦ not_none p.1 (sym (cond-true (eq key p.1.key) _ _ equal) ∙ none)
+  -- no node's key passes a test that no entry's does
+  pub key_absent : (test : K → Bool) (nodes : List (ℕ × Entry K V)) → entry_where test (values_of nodes) ≡ None
+      → (i : ℕ) (x : Entry K V) → lookup (nat_eq i) nodes ≡ Some x → test x.key ≡ false
+  key_absent test [] none i x h = not_none x (sym h)
+  key_absent test (p ∷ nodes) none i x h =
+      elim (cases_Bool (test p.1.key)) [
+        | inl equal ↦ not_none p.1 (sym (cond-true (test p.1.key) _ _ equal) ∙ none)
         | inr differ ↦
             elim (cases_Bool (nat_eq i p.0)) [
               | inl same ↦
-                  subst (λ y. eq key y.key ≡ false)
+                  subst (λ y. test y.key ≡ false)
                   (some_parts p.1 x (sym (cond-true (nat_eq i p.0) (Some p.1) (lookup (nat_eq i) nodes) same) ∙ h)) differ
               | inr other ↦
-                  key_absent eq key nodes (sym (cond-false (eq key p.1.key) _ _ differ) ∙ none) i x
+                  key_absent test nodes (sym (cond-false (test p.1.key) _ _ differ) ∙ none) i x
                   (sym (lookup-other i p nodes other) ∙ h)
             ]
       ]

@@ -122,7 +122,7 @@ module _ {K V : Type 0} {eq : K → K → Bool} (laws : IsEquivalence eq) {keeps
       → id < index.ids → Adds index id e.hash indexed → IsStored eq keeps new with_it listed heavier indexed
   stored-latest id e fresh absent small few new with_it listed heavier indexed new_is marked listed_is weighed room step =
       rw listed_is (record {
-        keyed = rw new_is (keyed-latest s.keyed laws id e fresh (key_absent eq e.key nodes absent));
+        keyed = rw new_is (keyed-latest s.keyed laws id e fresh (key_absent (eq e.key) nodes absent));
         order = rw new_is (order-with (id, e) nodes s.order);
         marked = marked;
         few = omega (arith, few, ap length new_is, length-latest (id, e) nodes);
@@ -165,7 +165,7 @@ module _ {K V : Type 0} {eq : K → K → Bool} (laws : IsEquivalence eq) {keeps
         let fresh = gone id nodes s.keyed.once in
         rw listed_is (record {
           keyed = rw new_is (keyed-latest (keyed-removed s.keyed id) laws id e fresh
-              (λ i y h. key_absent eq e.key nodes absent i y
+              (λ i y h. key_absent (eq e.key) nodes absent i y
               (removed_parts s.keyed (nat_eq id i) y (lookup (nat_eq i) nodes) (sym (lookup-removed id i nodes s.keyed.once) ∙ h))));
           order = rw new_is (order-with (id, e) rest (order-removed laws s.keyed id x stood s.order));
           marked = marked;

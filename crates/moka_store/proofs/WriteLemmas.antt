@@ -9,7 +9,7 @@ use Rattle.std.specs.List.{AllByRecursion, IsDistinct, cons_option}
 use Rattle.std.specs.Map.{lookup, remove_entry, keys_of, values_of}
 use Rattle.moka_list.specs.IdList.{ids_without, is_listed}
 use Rattle.moka_unsync_model.specs.declared.entry.Entry.{Entry}
-use Rattle.moka_unsync_model.specs.Contents.{entry_at, write_of, writes_without}
+use Rattle.moka_unsync_model.specs.Contents.{entry_where, write_of, writes_except, writes_without}
 use Rattle.moka_unsync_model.specs.Insert.{with_write}
 use Rattle.moka_store.specs.Nodes.{AreKeyed, IsWritten, SameBy, latest_node, write_added, write_last, write_left, write_under, written_under}
 use Rattle.moka_list.proofs.ItemLemmas.{nat_eq-same}
@@ -249,15 +249,15 @@ under-latest {K = K} {V = V} {keeps = keeps} {nodes = nodes} {ids = ids} s id e 
         filter_map-append (write_under new) ids (id ∷ []) ∙ (λ i. stood ids all i ++ cons_option (here i) [])
     by false unkept = stood ids all
 
--- a key without an entry has no write
-pub under-absent : {K V : Type 0} (eq : K → K → Bool) (key : K) (nodes : List (ℕ × Entry K V)) (ids : List ℕ)
-    → entry_at eq key (values_of nodes) ≡ None → writes_without eq key (written_under nodes ids) ≡ written_under nodes ids
-under-absent eq key nodes [] none = refl
-under-absent {K = K} {V = V} eq key nodes (j ∷ js) none = by (lookup (nat_eq j) nodes) refl (under-absent eq key nodes js none)
+-- where no entry's key passes a test, no write's does
+pub under-absent : {K V : Type 0} (test : K → Bool) (nodes : List (ℕ × Entry K V)) (ids : List ℕ)
+    → entry_where test (values_of nodes) ≡ None → writes_except test (written_under nodes ids) ≡ written_under nodes ids
+under-absent test nodes [] none = refl
+under-absent {K = K} {V = V} test nodes (j ∷ js) none = by (lookup (nat_eq j) nodes) refl (under-absent test nodes js none)
   where
-    by : (o : Option (Entry K V)) → lookup (nat_eq j) nodes ≡ o → writes_without eq key (written_under nodes js) ≡ written_under nodes js
-        → writes_without eq key (cons_option (option_map write_of o) (written_under nodes js))
+    by : (o : Option (Entry K V)) → lookup (nat_eq j) nodes ≡ o → writes_except test (written_under nodes js) ≡ written_under nodes js
+        → writes_except test (cons_option (option_map write_of o) (written_under nodes js))
         ≡ cons_option (option_map write_of o) (written_under nodes js)
     by None is rest = rest
     by (Some x) is rest =
-        cond-true (not (eq key x.key)) _ _ (ap not (key_absent eq key nodes none j x is)) ∙ ap (λ l. write_of x ∷ l) rest
+        cond-true (not (test x.key)) _ _ (ap not (key_absent test nodes none j x is)) ∙ ap (λ l. write_of x ∷ l) rest

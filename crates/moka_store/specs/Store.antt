@@ -6,7 +6,7 @@ use Rattle.moka_list.specs.IdList.{is_listed}
 use Rattle.moka_unsync_model.specs.declared.entry.Entry.{Entry}
 use Rattle.moka_unsync_model.specs.declared.entry.Part.{Part}
 use Rattle.moka_unsync_model.specs.declared.entry.Part.TheVariants.{Probation, Protected, Window}
-use Rattle.moka_unsync_model.specs.Contents.{Contents, Write, after_moving, entries_without, entry_at, entry_keys, is_probation, is_protected, is_window}
+use Rattle.moka_unsync_model.specs.Contents.{Contents, Write, after_moving, entries_without, entry_keys, entry_where, is_probation, is_protected, is_window}
 use Rattle.moka_unsync_model.specs.Contents.{without}
 use Rattle.moka_unsync_model.specs.Contents.{write_of, writes_without}
 use Rattle.moka_unsync_model.specs.Insert.{after_arrival, after_update}
@@ -62,15 +62,16 @@ module _ {K V : Type 0} where
     pub standing : (id : ℕ) → is_listed ids id ≡ true → IsSome (lookup (nat_eq id) store.nodes)
     pub ahead : (id : ℕ) (e : Entry K V) → lookup (nat_eq id) store.nodes ≡ Some e → e.hash ≡ hash → is_listed ids id ≡ true
 
+  module _ (test : K → Bool) where
+    -- every entry whose key passes the test has this hash
+    abbrev pub HasHash : Store K V → ℕ → Type 0
+    HasHash store hash = All (λ e. test e.key ≡ true → e.hash ≡ hash) (entries_of store)
+
+    -- it is the node of the first such entry
+    abbrev pub IsFound : Store K V → ℕ → Type 0
+    IsFound store id = (e : Entry K V) × (lookup (nat_eq id) store.nodes ≡ Some e) × (entry_where test (entries_of store) ≡ Some e)
+
   module _ (eq : K → K → Bool) where
-    -- every entry of this key has this hash
-    abbrev pub HasHash : Store K V → K → ℕ → Type 0
-    HasHash store key hash = All (λ e. eq key e.key ≡ true → e.hash ≡ hash) (entries_of store)
-
-    -- it is the node of the entry of this key
-    abbrev pub IsFound : Store K V → K → ℕ → Type 0
-    IsFound store key id = (e : Entry K V) × (lookup (nat_eq id) store.nodes ≡ Some e) × (entry_at eq key (entries_of store) ≡ Some e)
-
     -- it is the node of the first entry, whose key no other entry has
     pub record IsFront (store : Store K V) (id : ℕ) : Type 0 where
       pub entry : Entry K V

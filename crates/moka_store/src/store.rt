@@ -6,7 +6,8 @@ ghost use Rattle.std.specs.List.{IsDistinct};
 ghost use Rattle.std.specs.Map.{keys_of, lookup};
 ghost use Rattle.moka_list.specs.Nodes.{first_id, next_id};
 ghost use Rattle.moka_common.specs.Settings.{keeps_writes};
-ghost use Rattle.moka_unsync_model.specs.Contents.{InOrder, balanced, entry_at, entry_keys, no_contents, total_weight, window_of, writes_without};
+ghost use Rattle.moka_unsync_model.specs.Contents.{InOrder, balanced, entry_at, entry_keys, entry_where, no_contents, total_weight, window_of};
+ghost use Rattle.moka_unsync_model.specs.Contents.{writes_except};
 ghost use Rattle.moka_unsync_model.specs.declared.entry.Part.TheVariants.{Probation};
 ghost use Rattle.moka_store.specs.Nodes.{start_of};
 ghost use Rattle.moka_store.specs.Store.{AreCandidates, Continues, Enters, HasHash, IsFound, IsFront, IsFrontOf, IsOldest, Promotes, Removes, Replaces};
@@ -18,6 +19,7 @@ use crate::parts::{
     used_part, write_again,
 };
 use moka_common::error::OutOfMemory;
+use moka_common::lookup::Lookup;
 use moka_common::policy::Policy;
 use moka_common::time::Instant;
 use moka_list::chain::{Chain, IdList, Iter, NodeId};
@@ -26,6 +28,7 @@ use moka_list::hash_index::{Candidates, HashIndex};
 use moka_list::indexing::index_all;
 use moka_unsync_model::entry::{Entry, Part};
 use std::alloc::{AllocError, Allocator, Global};
+use std::hash::Hash;
 use std::marker::Model;
 use std::mem::replace;
 
@@ -159,37 +162,46 @@ impl<K: Eq + Drop, V: Drop, A: Allocator + Clone + Drop> Store<K, V, A> {
         self.index.candidates(hash)
     }
 
-    /// Ends a search: finds the node of the key among the candidates of its hash.
+    /// Ends a search: finds the node of the key that the probe stands for among the candidates of its hash.
     #[inline(always)]
-    pub fn find_among(&self, candidates: Candidates<'_>, key: &K, hash: u64) -> Option<NodeId>
+    pub fn find_among<Q: Lookup<K>>(
+        &self,
+        candidates: Candidates<'_>,
+        probe: Q,
+        hash: u64,
+    ) -> Option<NodeId>
+    where
+        K: Hash,
         requires candidates { AreCandidates self.now hash candidates }
-        requires hashed { HasHash K.eq self.now key.now hash }
-        ensures found { IfSome result (λ id. IsFound K.eq self.now key.now id) }
-        ensures absent { IsNone result → entry_at K.eq key.now (entries_of self.now) ≡ None }
-        ensures unwritten { IsNone result → writes_without K.eq key.now self.now.written ≡ self.now.written }
+        requires hashed { HasHash (Q.stands_for probe) self.now hash }
+        ensures found { IfSome result (λ id. IsFound (Q.stands_for probe) self.now id) }
+        ensures absent { IsNone result → entry_where (Q.stands_for probe) (entries_of self.now) ≡ None }
+        ensures unwritten { IsNone result → writes_except (Q.stands_for probe) self.now.written ≡ self.now.written }
     {
         let entries = &self.entries;
         let is_sought = |number|
             requires { IsSome (lookup (nat_eq number) entries.now.items) }
             ensures { IfSome (lookup (nat_eq number) entries.entry.now.items)
-                (λ e. result ≡ ((e.hash == hash) && K.eq key.entry.now e.key)) }
+                (λ e. result ≡ ((e.hash == hash) && Q.stands_for probe e.key)) }
         {
             let entry = entries.get(NodeId::from_number(number));
-            entry.hash == hash && *key == entry.key
+            entry.hash == hash && probe.stands_for(&entry.key)
         };
         let number = candidates.find(is_sought)?;
         Some(NodeId::from_number(number))
     }
 
-    /// Finds the node of the key. The hash is the key's.
+    /// Finds the node of the key that the probe stands for. The hash is the probe's.
     #[inline(always)]
-    pub fn find(&self, key: &K, hash: u64) -> Option<NodeId>
-        requires { HasHash K.eq self.now key.now hash }
-        ensures found { IfSome result (λ id. IsFound K.eq self.now key.now id) }
-        ensures absent { IsNone result → entry_at K.eq key.now (entries_of self.now) ≡ None }
-        ensures unwritten { IsNone result → writes_without K.eq key.now self.now.written ≡ self.now.written }
+    pub fn find<Q: Lookup<K>>(&self, probe: Q, hash: u64) -> Option<NodeId>
+    where
+        K: Hash,
+        requires { HasHash (Q.stands_for probe) self.now hash }
+        ensures found { IfSome result (λ id. IsFound (Q.stands_for probe) self.now id) }
+        ensures absent { IsNone result → entry_where (Q.stands_for probe) (entries_of self.now) ≡ None }
+        ensures unwritten { IsNone result → writes_except (Q.stands_for probe) self.now.written ≡ self.now.written }
     {
-        self.find_among(self.candidates(hash), key, hash)
+        self.find_among(self.candidates(hash), probe, hash)
     }
 
     /// Returns the entry of a node.

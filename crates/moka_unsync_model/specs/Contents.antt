@@ -98,23 +98,40 @@ module _ {K V : Type 0} where
   abbrev pub entry_keys : List (Entry K V) → List K
   entry_keys entries = map (λ e. e.key) entries
 
+module _ {K : Type 0} (test : K → Bool) where
+  -- the first entry whose key passes the test
+  abbrev pub entry_where : {V : Type 0} → List (Entry K V) → Option (Entry K V)
+  entry_where entries = find (λ e. test e.key) entries
+
+  -- the entries whose keys don't
+  abbrev pub entries_except : {V : Type 0} → List (Entry K V) → List (Entry K V)
+  entries_except entries = filter (λ e. not (test e.key)) entries
+
+  -- the writes whose keys don't
+  abbrev pub writes_except : List (Write K) → List (Write K)
+  writes_except written = filter (λ w. not (test w.key)) written
+
+  -- the contents once the entries whose keys pass have left
+  abbrev pub except : {V : Type 0} → Contents K V → Contents K V
+  except contents = record { entries = entries_except contents.entries; written = writes_except contents.written }
+
 module _ {K : Type 0} (eq : K → K → Bool) where
   -- the entry that stands at a key
   abbrev pub entry_at : {V : Type 0} → K → List (Entry K V) → Option (Entry K V)
-  entry_at key entries = find (λ e. eq key e.key) entries
+  entry_at key entries = entry_where (eq key) entries
 
   -- the entries of other keys
   abbrev pub entries_without : {V : Type 0} → K → List (Entry K V) → List (Entry K V)
-  entries_without key entries = filter (λ e. not (eq key e.key)) entries
+  entries_without key entries = entries_except (eq key) entries
 
   -- the writes of other keys
   abbrev pub writes_without : K → List (Write K) → List (Write K)
-  writes_without key written = filter (λ w. not (eq key w.key)) written
+  writes_without key written = writes_except (eq key) written
 
   module _ {V : Type 0} where
     -- the contents once the entry of a key has left
     abbrev pub without : Contents K V → K → Contents K V
-    without contents key = record { entries = entries_without key contents.entries; written = writes_without key contents.written }
+    without contents key = except (eq key) contents
 
     -- the contents once the entries of these keys have left, one after another
     abbrev pub after_leaving : List K → Contents K V → Contents K V

@@ -3,7 +3,7 @@ use Rattle.std.specs.Prelude.{◌≡◌, ℕ, Bool, true, false, List, [], ◌�
 use Rattle.std.specs.Borrow.{Bor}
 use Rattle.moka_common.specs.Keys.{Keys}
 use Rattle.moka_unsync_model.specs.declared.entry.Entry.{Entry}
-use Rattle.moka_unsync_model.specs.Contents.{after_leaving, entry_keys, no_contents, without}
+use Rattle.moka_unsync_model.specs.Contents.{after_leaving, entry_keys, except, no_contents}
 use Rattle.moka_unsync_model.specs.CacheState.{CacheState}
 use Rattle.moka_unsync_model.specs.Lookup.{after_look}
 
@@ -34,9 +34,13 @@ module _ {P K V : Type 0} (calls : P → Bor K → Bor V → Bool → P → Type
       × (answers ≡ answer ∷ rest) × AnswersAt predicate entry answer next × AnswersInTurn next entries rest
 
 module _ {K V S W : Type 0} (keys : Keys K S) where
-  -- the cache once a key is invalidated or removed: cleanup, and then its entry leaves
+  -- the cache once a key that passes a test is invalidated or removed: cleanup, and then its entry leaves
+  abbrev pub after_invalidate_where : CacheState K V S W → (K → Bool) → ℕ → CacheState K V S W
+  after_invalidate_where cache test now = record cache { contents = except test (after_look keys cache now).contents }
+
+  -- the cache once a key is
   abbrev pub after_invalidate : CacheState K V S W → K → ℕ → CacheState K V S W
-  after_invalidate cache key now = record cache { contents = without keys.eq (after_look keys cache now).contents key }
+  after_invalidate cache key now = after_invalidate_where cache (keys.eq key) now
 
   -- the cache once a predicate has answered for each entry, in order of use: those that it chose have left
   abbrev pub after_invalidate_if : CacheState K V S W → List Bool → CacheState K V S W

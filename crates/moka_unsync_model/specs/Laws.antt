@@ -1,6 +1,6 @@
 -- What a contract sees of the laws of the cache, which `src/laws.rt` promises, but for those of a plain map.
 use Rattle.std.specs.Prelude.{◌≡◌, ◌≢◌, ◌⊎◌, ◌<◌, ◌≤◌, ◌+◌, ◌*◌, ◌^◌, ℕ, Bool, true, false, List, [], ◌∷◌, ◌++◌, All, filter, length, map, max, Option, Some}
-use Rattle.std.specs.Prelude.{None, IsSome}
+use Rattle.std.specs.Prelude.{None, IsSome, IsTrue}
 use Rattle.std.specs.Prelude.{option_map}
 use Rattle.std.specs.List.{AllByRecursion, IsDistinct, find}
 use Rattle.moka_common.specs.Keys.{Keys}
@@ -13,7 +13,9 @@ use Rattle.moka_unsync_model.specs.Insert.{IsInserted, after_entering, after_ent
 use Rattle.moka_unsync_model.specs.Window.{after_candidate, candidates, given_up, victims_of}
 use Rattle.moka_common.specs.Sketch.{Table}
 use Rattle.moka_common.specs.Settings.{Settings, keeps_writes}
-use Rattle.moka_unsync_model.specs.Lookup.{after_get, after_look, unexpired_at}
+use Rattle.moka_unsync_model.specs.Invalidate.{after_invalidate, after_invalidate_where}
+use Rattle.moka_unsync_model.specs.Lookup.{after_get, after_get_where, after_look, found_by_get, found_by_peek, found_where, is_contained}
+use Rattle.moka_unsync_model.specs.Lookup.{is_contained_where, peeked_where, unexpired_at}
 use Rattle.moka_unsync_model.specs.GetOrInsert.{IsGot, IsPutBehind, IsRefusedBehind}
 use Rattle.moka_unsync_model.specs.Step.{Answer, IsStep, Done, Found, OutOfMemory, Request, Runs, Get, Peek, ContainsKey, Insert, Invalidate, Remove}
 use Rattle.moka_unsync_model.specs.Step.{InvalidateAll, InvalidateEntriesIf, Iterate, EntryCount, WeightedSize}
@@ -309,3 +311,16 @@ module _ {K V S W : Type 0} (keys : Keys K S) (weighs : W → K → V → ℕ �
         → Runs keys weighs old (Get key now ∷ Insert key value now ∷ []) (Found None ∷ Done ∷ []) new
     pub refused : (old new : CacheState K V S W) (key : K) (value : V) (now : ℕ) → IsRefusedBehind keys old key now new
         → Runs keys weighs old (Get key now ∷ Insert key value now ∷ []) (Found None ∷ OutOfMemory ∷ []) new
+
+-- ---- probes
+
+module _ {Q K S : Type 0} (V W : Type 0) (keys : Keys K S) (stands_for : Q → K → Bool) (hash_of : S → Q → ℕ) where
+  -- a look-up by a probe answers and leaves what that by each key does that the probe stands for
+  pub record ProbesActAsKeys : Type 0 where
+    pub hash : (state : S) (probe : Q) (key : K) → IsTrue (stands_for probe key) → hash_of state probe ≡ keys.hash_of state key
+    pub calls : (probe : Q) (key : K) → IsTrue (stands_for probe key) → (cache : CacheState K V S W) (now : ℕ) →
+        (found_where keys cache (stands_for probe) now ≡ found_by_get keys cache key now)
+        × (after_get_where keys cache (stands_for probe) (hash_of cache.settings.hash_state probe) now ≡ after_get keys cache key now)
+        × (peeked_where cache (stands_for probe) now ≡ found_by_peek keys cache key now)
+        × (is_contained_where keys cache (stands_for probe) now ≡ is_contained keys cache key now)
+        × (after_invalidate_where keys cache (stands_for probe) now ≡ after_invalidate keys cache key now)

@@ -1,12 +1,12 @@
 -- What a listener is told of in each call.
-use Rattle.std.specs.Prelude.{ℕ, Option, Some, None, is_some, min}
+use Rattle.std.specs.Prelude.{ℕ, Bool, Option, Some, None, is_some, min}
 use Rattle.moka_common.specs.Keys.{Keys}
 use Rattle.moka_unsync_model.specs.declared.entry.Entry.{Entry}
 use Rattle.moka_unsync_model.specs.declared.listener.Cause.{Cause}
 use Rattle.moka_unsync_model.specs.declared.listener.Cause.TheVariants as cause
 use Rattle.moka_unsync_model.specs.declared.shares.PartLimits.{PartLimits}
 use Rattle.moka_unsync_model.specs.CacheState.{CacheState, windowed}
-use Rattle.moka_unsync_model.specs.Contents.{Contents, entry_at}
+use Rattle.moka_unsync_model.specs.Contents.{Contents, entry_at, entry_where}
 use Rattle.moka_unsync_model.specs.Insert.{new_entry}
 use Rattle.moka_unsync_model.specs.Lookup.{after_get}
 use Rattle.moka_unsync_model.specs.Shares.{main_limit}
@@ -28,17 +28,25 @@ module _ {L K V S W : Type 0} (hears : L → K → V → Cause → L → Type 0)
   abbrev pub TellsLook : L → L → Type 0
   TellsLook before after = TellsCleanup hears keys.eq old.settings.policy now old.contents before after
 
-  -- an invalidation tells of that, and of the entry of its key: as removed, or as expired if it was
-  pub record TellsInvalidate (key : K) (before after : L) : Type 0 where
+  -- an invalidation tells of that, and of the entry whose key passes a test: as removed, or as expired if it was
+  pub record TellsInvalidateWhere (test : K → Bool) (before after : L) : Type 0 where
     pub between : L
     pub cleanup : TellsLook before between
-    pub taken : TellsTaken hears old.settings.policy now cause.Explicit (entry_at keys.eq key kept.entries) between after
+    pub taken : TellsTaken hears old.settings.policy now cause.Explicit (entry_where test kept.entries) between after
 
-  -- a removal tells of that, and of the entry of its key only if it doesn't return the value
-  pub record TellsRemove (key : K) (before after : L) : Type 0 where
+  -- so does that of a key
+  abbrev pub TellsInvalidate : K → L → L → Type 0
+  TellsInvalidate key before after = TellsInvalidateWhere (keys.eq key) before after
+
+  -- a removal tells of that, and of the entry whose key passes a test only if it doesn't return the value
+  pub record TellsRemoveWhere (test : K → Bool) (before after : L) : Type 0 where
     pub between : L
     pub cleanup : TellsLook before between
-    pub found : TellsExpired hears old.settings.policy now (entry_at keys.eq key kept.entries) between after
+    pub found : TellsExpired hears old.settings.policy now (entry_where test kept.entries) between after
+
+  -- so does that of a key
+  abbrev pub TellsRemove : K → L → L → Type 0
+  TellsRemove key before after = TellsRemoveWhere (keys.eq key) before after
 
   -- the entry that is put replaces a value, which is told as expired if it was, or is new: then entries may give way to it, or it is not let in
   abbrev pub TellsNew : Option (Entry K V) → K → V → CacheState K V S W → L → L → Type 0

@@ -1,14 +1,15 @@
 //! The laws of the cache as a machine, one a function. A law is its function's clause: there is no code to call.
-ghost use Rattle.moka_common.specs.Keys.{keys_by};
+ghost use Rattle.moka_common.specs.Keys.{hash_by, keys_by};
 ghost use Rattle.std.specs.Prelude.{◌≡◌, ◌/◌, ℕ};
 ghost use Rattle.moka_unsync_model.specs.declared.constants.TheConstants.{EVICTION_BATCH_SIZE};
 ghost use Rattle.moka_unsync_model.specs.Shares.{default_shares, limits_of};
 ghost use Rattle.moka_unsync_model.specs.Laws.{EntriesAreOwn, GetsOrInsertsAreRuns, HitsAreProtected, InvalidationsKeepCounts, KeysStandOnce};
 ghost use Rattle.moka_unsync_model.specs.Laws.{FixedSharesStay, InsertsDoLittle, LooksChangeNothing, TurnsAreSmall, WindowStaysWithinBounds};
-ghost use Rattle.moka_unsync_model.specs.Laws.{NeverRefuses, OnlyUpdatesOutgrowLimit, PartsStandInOrder, ProtectedGivesWayLast, ProtectedStaysEmpty};
+ghost use Rattle.moka_unsync_model.specs.Laws.{NeverRefuses, OnlyUpdatesOutgrowLimit, PartsStandInOrder, ProbesActAsKeys, ProtectedGivesWayLast, ProtectedStaysEmpty};
 ghost use Rattle.moka_unsync_model.specs.Laws.{ProtectedStaysWithinShare, StaysWithinLimit, WindowStandsBehind, WindowStaysEmpty, WritesFollowEntries};
 ghost use Rattle.moka_unsync_model.specs.PlainMap.{RunsAsMap, StepsAsMap};
 
+use moka_common::lookup::Lookup;
 use moka_common::weigh::Weigh;
 use std::hash::{BuildHasher, Hash};
 
@@ -140,4 +141,10 @@ pub fn runs_are_those_of_a_map<K: Eq + Hash, V, S: BuildHasher, W: Weigh<K, V>>(
 /// A get or insert is a run of one call or two: a get, and where that finds nothing an insert at the same moment. So each law of runs speaks of it.
 pub fn gets_or_inserts_are_runs<K: Eq + Hash, V, S: BuildHasher, W: Weigh<K, V>>()
     ensures { GetsOrInsertsAreRuns (keys_by K.Hash S.BuildHasher S.Hasher.Hasher) W.weighs }
+{}
+
+/// A look-up by a probe answers and leaves what that by any key does that the probe stands for. So each law of runs speaks of it too.
+pub fn probes_act_as_keys<K: Eq + Hash, V, S: BuildHasher, W, Q: Lookup<K>>()
+    ensures { ProbesActAsKeys V W (keys_by K.Hash S.BuildHasher S.Hasher.Hasher) Q.stands_for
+        (λ state probe. hash_by S.BuildHasher S.Hasher.Hasher state (Q.hash_input probe)) }
 {}
