@@ -73,7 +73,7 @@ module _ {K V : Type 0} (eq : K → K → Bool) where
         ]
 
     -- so are those behind the node that was found
-    pub found_behind : (store : Store K V) (key : K) (id : ℕ) → IsFound eq store key id → IsDistinct nat_eq (ids_of store.nodes)
+    pub found_behind : (store : Store K V) (key : K) (id : ℕ) → IsFound (eq key) store id → IsDistinct nat_eq (ids_of store.nodes)
         → IsDistinct eq (entry_keys (entries_of store))
         → values_of (from_node (next_id id store.nodes) store.nodes) ≡ entries_behind eq key (entries_of store)
     found_behind store key id found ids once = nodes_behind key id found.0 store.nodes ids once found.1 found.2

@@ -1,19 +1,19 @@
 -- Lemmas on what holds of a cache's parts.
 use Rattle.std.proofs.Common.{◌≡◌, ◌≤◌, ◌-◌, ℕ, Bool, true, false, List, [], ◌∷◌, All, length, nat_eq}
 use Rattle.std.proofs.Common.{is_some, nat_lt, Option, Some, None, unwrap_or, sym, ap, ◌∙◌}
-use Rattle.std.proofs.Common.{refl, subst, inl, inr}
+use Rattle.std.proofs.Common.{not, refl, subst, inl, inr}
 use Rattle.std.proofs.lemmas.Bool.{cases_Bool, cond-true, cond-false, false≢true}
 use Rattle.std.proofs.lemmas.List.{length-map}
-use Rattle.std.proofs.lemmas.List.Elements.{All-weaker, All-head, All-tail, All-from_recursion}
+use Rattle.std.proofs.lemmas.List.Elements.{All-filter, All-weaker, All-head, All-tail, All-from_recursion}
 use Rattle.std.specs.Map.{lookup, values_of}
 use Rattle.std.specs.declared.hash.BuildHasher as builder
 use Rattle.std.specs.declared.hash.Hasher as hasher
-use Rattle.moka_common.specs.Keys.{Keys, keys_by}
-use Rattle.moka_common.proofs.KeysLemmas.{keys_by-respects}
+use Rattle.std.specs.HashMap.Lent.{HashMembers}
+use Rattle.moka_common.specs.Keys.{Keys, hash_by, keys_by}
 use Rattle.moka_common.specs.Policy.{Policy}
 use Rattle.moka_unsync_model.specs.declared.entry.Entry.{Entry}
 use Rattle.moka_unsync_model.specs.declared.entry.Part.{Part}
-use Rattle.moka_unsync_model.specs.Contents.{after_leaving, balanced, entry_keys, is_protected, is_window, protected_of, total_weight}
+use Rattle.moka_unsync_model.specs.Contents.{after_leaving, balanced, entry_keys, except, is_protected, is_window, protected_of, total_weight}
 use Rattle.moka_unsync_model.specs.Cleanup.{after_cleanup}
 use Rattle.moka_common.specs.Settings.{keeps_writes}
 use Rattle.moka_common.specs.Sketch.{Table}
@@ -46,17 +46,13 @@ module _ {K V : Type 0} where
             (sym (cond-false (nat_eq id p.0) (Some p.1) (lookup (nat_eq id) nodes) other) ∙ h)
       ]
 
-module _ {K V S H : Type 0} (eq : K → K → Bool) (hash_input : K → List (List ℕ)) (build : builder.Ghosts S H) (hash : hasher.Ghosts H)
-    (respects : (x y : K) → eq x y ≡ true → hash_input x ≡ hash_input y) where
-  -- what is looked for by the hash of a key is looked for rightly
-  pub has_hash : {state : S} {policy : Policy} {shares : Shares} {limits : Option PartLimits} {store : Store K V}
-      → IsCached (keys_by (record { eq = eq; hash_input = hash_input }) build hash) state policy shares limits store → {key : K} {hashed : ℕ}
-      → hashed ≡ (keys_by (record { eq = eq; hash_input = hash_input }) build hash).hash_of state key → HasHash eq store key hashed
-  has_hash {state} {store = store} is {key} {hashed} h =
-      let keys = keys_by (record { eq = eq; hash_input = hash_input }) build hash in
-      let alike = keys_by-respects (record { eq = eq; hash_input = hash_input }) build hash respects in
-      All-weaker (λ e. e.hash ≡ keys.hash_of state e.key) (λ e. eq key e.key ≡ true → e.hash ≡ hashed)
-      (λ e own equal. own ∙ (sym (alike state key e.key equal) ∙ sym h)) (entries_of store) is.hashed
+-- what is looked for by the hash of what a test stands for is looked for rightly: the keys that pass make the same writes
+pub has_hash : {K V S H : Type 0} (key : HashMembers K) (build : builder.Ghosts S H) (hash : hasher.Ghosts H) (test : K → Bool) (writes : List (List ℕ))
+    → ((k : K) → test k ≡ true → writes ≡ key.hash_input k) → {state : S} {policy : Policy} {shares : Shares} {limits : Option PartLimits} {store : Store K V}
+    → IsCached (keys_by key build hash) state policy shares limits store → {hashed : ℕ} → hashed ≡ hash_by build hash state writes → HasHash test store hashed
+has_hash key build hash test writes alike {state} {store = store} is {hashed} h =
+    All-weaker (λ e. e.hash ≡ hash_by build hash state (key.hash_input e.key)) (λ e. test e.key ≡ true → e.hash ≡ hashed)
+    (λ e own passes. own ∙ (sym (ap (hash_by build hash state) (alike e.key passes)) ∙ sym h)) (entries_of store) is.hashed
 
 module _ {K V S : Type 0} {keys : Keys K S} {state : S} {policy : Policy} {shares : Shares} {limits : Option PartLimits} where
   -- cleanup keeps the parts tied
@@ -125,6 +121,22 @@ module _ {K V S : Type 0} {keys : Keys K S} {state : S} {policy : Policy} {share
         main = λ none.
             subst (λ c. All (λ e. is_window e.part ≡ false) c.entries) (sym step)
             (All-leaving keys.eq (λ e. is_window e.part ≡ false) gone (contents_of old) (is.main none));
+        legal = is.legal;
+        windowed = is.windowed;
+        protected = kept.settings.limit ∙ is.protected;
+      }
+
+  -- so they do where those leave whose keys pass a test
+  pub IsCached-except : (test : K → Bool) {old new : Store K V} → IsCached keys state policy shares limits old
+      → contents_of new ≡ except test (contents_of old) → Continues old new → IsCached keys state policy shares limits new
+  IsCached-except test {old = old} is step kept =
+      let P : Entry K V → Type 0 = λ e. e.hash ≡ keys.hash_of state e.key in
+      record {
+        hashed = subst (λ c. All P c.entries) (sym step) (All-filter (λ e. not (test e.key)) P (entries_of old) is.hashed);
+        keeps = kept.settings.keeps ∙ is.keeps;
+        main = λ none.
+            subst (λ c. All (λ e. is_window e.part ≡ false) c.entries) (sym step)
+            (All-filter (λ e. not (test e.key)) (λ e. is_window e.part ≡ false) (entries_of old) (is.main none));
         legal = is.legal;
         windowed = is.windowed;
         protected = kept.settings.limit ∙ is.protected;

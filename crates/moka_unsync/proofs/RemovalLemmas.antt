@@ -1,58 +1,56 @@
 -- Lemmas on what invalidations take out of the store.
-use Rattle.std.proofs.Common.{◌≡◌, ◌<◌, ℕ, Bool, true, false, not, nat_eq, List, [], ◌∷◌, filter, length, Option, Some, None, is_some}
+use Rattle.std.proofs.Common.{◌≡◌, ◌<◌, ℕ, Bool, true, false, not, nat_eq, List, [], ◌∷◌, length, Option, Some, None, is_some}
 use Rattle.std.proofs.Common.{IfSome, unwrap_or, refl, sym, ap, ◌∙◌, inl, inr, arith, subst}
 use Rattle.std.proofs.lemmas.Bool.{cases_Bool, cond-true, cond-false, false≢true}
 use Rattle.std.specs.Borrow.{Bor}
-use Rattle.std.specs.Cmp.{IsEquivalence}
 use Rattle.std.specs.List.{IsDistinct}
 use Rattle.std.specs.Map.{lookup, remove_entry, keys_of as ids_of, values_of}
 use Rattle.moka_list.specs.Nodes.{IsIn, first_id, next_id}
 use Rattle.moka_unsync_model.specs.declared.entry.Entry.{Entry}
-use Rattle.moka_unsync_model.specs.Contents.{Contents, after_leaving, entry_at, entries_without, entry_keys, without, writes_without}
+use Rattle.moka_unsync_model.specs.Contents.{Contents, after_leaving, entries_except, entry_keys, entry_where, except, without, writes_except}
 use Rattle.moka_unsync_model.specs.Invalidate.{AnswersAt, AnswersInTurn, chosen}
-use Rattle.moka_unsync_model.proofs.ContentsLemmas.{found_key}
 use Rattle.moka_store.specs.Store.{Store, IsFound, Removes, contents_of, entries_of}
 use Rattle.moka_list.proofs.WalkLemmas.{from_first, from_next, from_node, from_none, from_stays, next_stays}
 
-module _ {K V : Type 0} (eq : K → K → Bool) where
-  -- a key without an entry takes none with it
-  entries-absent : (key : K) (entries : List (Entry K V)) → entry_at eq key entries ≡ None → entries_without eq key entries ≡ entries
-  entries-absent key [] h = refl
-  entries-absent key (e ∷ es) h =
-      elim (cases_Bool (eq key e.key)) [
-        | inl equal ↦ absurd (false≢true (sym (ap is_some (sym (cond-true (eq key e.key) (Some e) (entry_at eq key es) equal) ∙ h))))
-        | inr differ ↦
-            cond-true (not (eq key e.key)) _ _ (ap not differ)
-            ∙ ap (λ l. e ∷ l) (entries-absent key es (sym (cond-false (eq key e.key) (Some e) (entry_at eq key es) differ) ∙ h))
+module _ {K V : Type 0} (test : K → Bool) where
+  -- where no entry's key passes, none leaves
+  entries-absent : (entries : List (Entry K V)) → entry_where test entries ≡ None → entries_except test entries ≡ entries
+  entries-absent [] h = refl
+  entries-absent (e ∷ es) h =
+      elim (cases_Bool (test e.key)) [
+        | inl passes ↦ absurd (false≢true (sym (ap is_some (sym (cond-true (test e.key) (Some e) (entry_where test es) passes) ∙ h))))
+        | inr fails ↦
+            cond-true (not (test e.key)) _ _ (ap not fails)
+            ∙ ap (λ l. e ∷ l) (entries-absent es (sym (cond-false (test e.key) (Some e) (entry_where test es) fails) ∙ h))
       ]
 
-  -- where neither entry nor write has the key, nothing leaves
-  pub without-absent : (key : K) (store : Store K V) → entry_at eq key (entries_of store) ≡ None
-      → writes_without eq key store.written ≡ store.written → contents_of store ≡ without eq (contents_of store) key
-  without-absent key store none unwritten =
-      λ i. record { entries = sym (entries-absent key (entries_of store) none) i; written = sym unwritten i }
+  -- where neither an entry's key passes nor a write's, nothing leaves
+  pub except-absent : (store : Store K V) → entry_where test (entries_of store) ≡ None → writes_except test store.written ≡ store.written
+      → contents_of store ≡ except test (contents_of store)
+  except-absent store none unwritten = λ i. record { entries = sym (entries-absent (entries_of store) none) i; written = sym unwritten i }
 
-  -- equal keys take the same with them
-  without-equal : IsEquivalence eq → (key other : K) → eq key other ≡ true → (contents : Contents K V)
-      → without eq contents other ≡ without eq contents key
-  without-equal laws key other equal contents =
-      λ i. record {
-        entries = filter (λ e. not (sym (laws.congr key other e.key equal) i)) contents.entries;
-        written = filter (λ w. not (sym (laws.congr key other w.key equal) i)) contents.written;
-      }
+  -- the key of one that is found passes
+  found_passes : (e : Entry K V) (entries : List (Entry K V)) → entry_where test entries ≡ Some e → test e.key ≡ true
+  found_passes e [] h = absurd (false≢true (ap is_some h))
+  found_passes e (x ∷ es) h =
+      elim (cases_Bool (test x.key)) [
+        | inl passes ↦
+            subst (λ y. test y.key ≡ true) (ap (λ o. unwrap_or o x) (sym (cond-true (test x.key) (Some x) (entry_where test es) passes) ∙ h)) passes
+        | inr fails ↦ found_passes e es (sym (cond-false (test x.key) (Some x) (entry_where test es) fails) ∙ h)
+      ]
 
+module _ {K V : Type 0} (eq : K → K → Bool) where
   -- an entry that left took its key with it
   pub left : (old new : Store K V) (id : ℕ) (r : Removes eq old id new) → contents_of new ≡ without eq (contents_of old) r.entry.key
   left old new id r = r.contents
 
-  -- the entry of the key left
-  pub without-found : IsEquivalence eq → (key : K) (old new : Store K V) (id : ℕ) → IsFound eq old key id → Removes eq old id new
-      → contents_of new ≡ without eq (contents_of old) key
-  without-found laws key old new id found r =
+  -- the entry that was found left, and the test passes just the keys that are equal to its key
+  pub except-found : (test : K → Bool) → ((x y : K) → test x ≡ true → test y ≡ eq x y) → (old new : Store K V) (id : ℕ) → IsFound test old id
+      → Removes eq old id new → contents_of new ≡ except test (contents_of old)
+  except-found test equals old new id found r =
       let same : r.entry ≡ found.0 = ap (λ o. unwrap_or o r.entry) (sym r.stood ∙ found.1) in
-      left old new id r
-      ∙ without-equal laws key r.entry.key (subst (λ e. eq key e.key ≡ true) (sym same) (found_key eq key found.0 (entries_of old) found.2))
-      (contents_of old)
+      let passes : test r.entry.key ≡ true = subst (λ e. test e.key ≡ true) (sym same) (found_passes test found.0 (entries_of old) found.2) in
+      left old new id r ∙ (λ i. except (λ x. sym (equals r.entry.key x passes) i) (contents_of old))
 
 -- ---- a walk through the nodes
 

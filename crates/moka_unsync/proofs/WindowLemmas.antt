@@ -169,7 +169,7 @@ module _ {K V : Type 0} where
         promoted_last after moved =
             let evicted = after_eviction_of eq count (contents_of old) in
             let apart : eq f.entry.key new.key ≡ false =
-            laws.symm f.entry.key new.key ∙ key_absent eq new.key old.nodes absent id f.entry f.stands in
+            laws.symm f.entry.key new.key ∙ key_absent (eq new.key) old.nodes absent id f.entry f.stands in
             moved
             ∙ (ap (after_moving eq (record f.entry { part = Probation })) (step ∙ entered_is evicted)
             ∙ (moving-push eq keeps new waits (record f.entry { part = Probation }) evicted refl apart

@@ -2,12 +2,12 @@
 ghost use Rattle.std.specs.Prelude.{◌≡◌, ◌<◌, ◌≤◌, ◌^◌, [], false, length, None, Some};
 ghost use Rattle.std.specs.Prelude.{IfErr, IfOk, option_copied, option_map};
 ghost use Rattle.std.specs.Map.Iter.{deref_pair};
-ghost use Rattle.moka_common.specs.Keys.{keys_by};
+ghost use Rattle.moka_common.specs.Keys.{hash_by, keys_by};
 ghost use Rattle.moka_common.specs.Sketch.{estimate};
 ghost use Rattle.moka_unsync.specs.Builder.{new_builder, reserved};
 ghost use Rattle.moka_unsync_model.specs.CacheState.{new_cache, window_limit};
-ghost use Rattle.moka_unsync_model.specs.Contents.{entry_at, weighted_size};
-ghost use Rattle.moka_unsync_model.specs.Lookup.{found_by_peek};
+ghost use Rattle.moka_unsync_model.specs.Contents.{entry_where, weighted_size};
+ghost use Rattle.moka_unsync_model.specs.Lookup.{found_by_peek, peeked_where};
 ghost use Rattle.moka_unsync_model.specs.Insert.{Refused, after_asking};
 ghost use Rattle.moka_unsync_model.specs.Iterate.{pair_behind, pairs_at};
 ghost use Rattle.moka_unsync_model.specs.Shares.{default_shares};
@@ -30,6 +30,7 @@ use moka_common::error::{BuildError, OutOfMemory};
 use moka_common::frequency_sketch::FrequencySketch;
 use moka_common::frequency_sketch::enabling::Load;
 use moka_common::hash::FixedState;
+use moka_common::lookup::Lookup;
 use moka_common::policy::Policy;
 use moka_common::time::Instant;
 use moka_common::weigh::UnitWeight;
@@ -156,7 +157,7 @@ impl<
     W: Drop,
     A: Allocator + Clone + Drop,
 > Model for Cache<K, V, S, W, A> {
-    ghost use Rattle.moka_common.specs.Keys.{keys_by};
+    ghost use Rattle.moka_common.specs.Keys.{hash_by, keys_by};
     ghost use Rattle.moka_unsync_model.specs.CacheState.{CacheState};
     ghost use Rattle.moka_unsync.specs.Cached.{IsCached};
     ghost use Rattle.moka_store.specs.Store.{contents_of};
@@ -246,11 +247,11 @@ impl<
         })
     }
 
-    /// Returns the hash of a key, for the calls that take one.
-    pub fn hash_of(&self, key: &K) -> u64
-        ensures { result ≡ (keys_by K.Hash S.BuildHasher S.Hasher.Hasher).hash_of self.now.settings.hash_state key.now }
+    /// Returns the hash of a key, or of a probe that stands for it, for the calls that take one.
+    pub fn hash_of<Q: Lookup<K>>(&self, probe: Q) -> u64
+        ensures { result ≡ hash_by S.BuildHasher S.Hasher.Hasher self.now.settings.hash_state (Q.hash_input probe) }
     {
-        self.hash_state.hash_one(key)
+        self.hash_state.hash_one(probe)
     }
 
     /// Turns it into a cache that gives a listener each entry that leaves.
@@ -303,7 +304,7 @@ impl<
     pub fn popularity(&self, key: &K) -> u8
         ensures { result ≡ estimate self.now.sketch ((keys_by K.Hash S.BuildHasher S.Hasher.Hasher).hash_of self.now.settings.hash_state key.now) }
     {
-        self.sketch.frequency(self.hash_state.hash_one(key))
+        self.sketch.frequency(self.hash_of(key))
     }
 
     /// Returns the value of the key's unexpired entry, if there is one. It doesn't count as an access, and removes nothing, so it still finds an entry that a
@@ -312,17 +313,23 @@ impl<
         ensures { option_copied result
             ≡ found_by_peek (keys_by K.Hash S.BuildHasher S.Hasher.Hasher) self.now key.now now }
     {
-        let hash = self.hash_state.hash_one(key);
-        self.peek_hashed(key, hash, now)
+        self.peek_by(key, now)
     }
 
-    /// Returns the value of the key, as `peek` does, by the key's hash.
-    pub fn peek_hashed(&self, key: &K, hash: u64, now: Instant) -> Option<&V>
-        requires { hash ≡ (keys_by K.Hash S.BuildHasher S.Hasher.Hasher).hash_of self.now.settings.hash_state key.now }
-        ensures { option_copied result
-            ≡ found_by_peek (keys_by K.Hash S.BuildHasher S.Hasher.Hasher) self.now key.now now }
+    /// Returns the value of the key that the probe stands for, as `peek` does: a `&str` stands for a `String`.
+    pub fn peek_by<Q: Lookup<K>>(&self, probe: Q, now: Instant) -> Option<&V>
+        ensures { option_copied result ≡ peeked_where self.now (Q.stands_for probe) now }
     {
-        let id = self.store.find(key, hash)?;
+        let hash = self.hash_of(probe);
+        self.peek_hashed(probe, hash, now)
+    }
+
+    /// Returns the value of the key, as `peek_by` does, by the probe's hash.
+    pub fn peek_hashed<Q: Lookup<K>>(&self, probe: Q, hash: u64, now: Instant) -> Option<&V>
+        requires { hash ≡ hash_by S.BuildHasher S.Hasher.Hasher self.now.settings.hash_state (Q.hash_input probe) }
+        ensures { option_copied result ≡ peeked_where self.now (Q.stands_for probe) now }
+    {
+        let id = self.store.find(probe, hash)?;
         let entry = self.store.get(id);
         if self.bounds.is_expired(entry, now) {
             return None;
@@ -330,12 +337,12 @@ impl<
         Some(&entry.value)
     }
 
-    /// Returns the value of the key's entry, expired or not. The hash is the key's.
-    pub(crate) fn stored(&self, key: &K, hash: u64) -> Option<&V>
-        requires { hash ≡ (keys_by K.Hash S.BuildHasher S.Hasher.Hasher).hash_of self.now.settings.hash_state key.now }
-        ensures { option_copied result ≡ option_map (λ e. e.value) (entry_at K.eq key.now self.now.contents.entries) }
+    /// Returns the value of the entry whose key the probe stands for, expired or not. The hash is the probe's.
+    pub(crate) fn stored<Q: Lookup<K>>(&self, probe: Q, hash: u64) -> Option<&V>
+        requires { hash ≡ hash_by S.BuildHasher S.Hasher.Hasher self.now.settings.hash_state (Q.hash_input probe) }
+        ensures { option_copied result ≡ option_map (λ e. e.value) (entry_where (Q.stands_for probe) self.now.contents.entries) }
     {
-        let id = self.store.find(key, hash)?;
+        let id = self.store.find(probe, hash)?;
         Some(&self.store.get(id).value)
     }
 
@@ -353,7 +360,7 @@ impl<
         ensures { option_map deref_pair result
             ≡ pair_behind (keys_by K.Hash S.BuildHasher S.Hasher.Hasher) self.now key.now now }
     {
-        let hash = self.hash_state.hash_one(key);
+        let hash = self.hash_of(key);
         let entry = next_unexpired(&self.store, &self.bounds, key, hash, now)?;
         Some((&entry.key, &entry.value))
     }

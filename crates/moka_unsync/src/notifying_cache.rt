@@ -1,13 +1,15 @@
 //! A cache for one thread that gives a listener each entry that leaves.
 ghost use Rattle.std.specs.Prelude.{◌≡◌, ◌⊎◌, ⊤, Bool, List, [], None, Ok, IfErr, IfOk, OnErr, OnOk, option_copied};
 ghost use Rattle.std.specs.Borrow.{sem};
-ghost use Rattle.moka_common.specs.Keys.{keys_by};
+ghost use Rattle.moka_common.specs.Keys.{hash_by, keys_by};
 ghost use Rattle.moka_unsync_model.specs.GetOrInsert.{IsGotOrInserted, IsRefusedBehind};
 ghost use Rattle.moka_unsync_model.specs.Insert.{IsInserted, IsRefused};
 ghost use Rattle.moka_unsync_model.specs.Invalidate.{AnswersInTurn, after_invalidate, after_invalidate_all, after_invalidate_if};
-ghost use Rattle.moka_unsync_model.specs.Lookup.{after_get, after_look, found_by_get, is_contained};
+ghost use Rattle.moka_unsync_model.specs.Invalidate.{after_invalidate_where};
+ghost use Rattle.moka_unsync_model.specs.Lookup.{after_get, after_get_where, after_look, found_by_get, found_where, is_contained, is_contained_where};
 ghost use Rattle.moka_unsync_model.specs.Told.{TellsWhatLeft};
-ghost use Rattle.moka_unsync_model.specs.ToldCalls.{TellsGot, TellsInsert, TellsInvalidate, TellsLook, TellsRemove};
+ghost use Rattle.moka_unsync_model.specs.ToldCalls.{TellsGot, TellsInsert, TellsInvalidate, TellsInvalidateWhere, TellsLook, TellsRemove};
+ghost use Rattle.moka_unsync_model.specs.ToldCalls.{TellsRemoveWhere};
 ghost use Rattle.moka_unsync.specs.Trying.{IsOnlyAGet};
 ghost use Rattle.moka_unsync_model.specs.declared.listener.Cause.TheVariants.{Explicit};
 
@@ -15,6 +17,7 @@ use crate::cache::Cache;
 use crate::error::TryInsertError;
 use moka_common::error::InsertError;
 use moka_common::hash::FixedState;
+use moka_common::lookup::Lookup;
 use moka_common::time::Instant;
 use moka_common::weigh::{UnitWeight, Weigh};
 use moka_unsync_model::listener::Listener;
@@ -127,9 +130,18 @@ impl<
         ensures step { self.new.cache ≡ after_look (keys_by K.Hash S.BuildHasher S.Hasher.Hasher) self.old.cache now }
         ensures told { TellsLook L.hears (keys_by K.Hash S.BuildHasher S.Hasher.Hasher) self.old.cache now self.old.listener self.new.listener }
     {
-        let hash = self.cache.hash_of(key);
+        self.contains_by(key, now)
+    }
+
+    /// Returns `true` if the key that the probe stands for has an unexpired entry, as `Cache::contains_by` does.
+    pub fn contains_by<Q: Lookup<K>>(&mut self, probe: Q, now: Instant) -> bool
+        ensures value { result ≡ is_contained_where (keys_by K.Hash S.BuildHasher S.Hasher.Hasher) self.old.cache (Q.stands_for probe) now }
+        ensures step { self.new.cache ≡ after_look (keys_by K.Hash S.BuildHasher S.Hasher.Hasher) self.old.cache now }
+        ensures told { TellsLook L.hears (keys_by K.Hash S.BuildHasher S.Hasher.Hasher) self.old.cache now self.old.listener self.new.listener }
+    {
+        let hash = self.cache.hash_of(probe);
         self.cache
-            .contains_notifying(key, hash, now, &mut self.listener)
+            .contains_notifying(probe, hash, now, &mut self.listener)
     }
 
     /// Returns the value of the key's unexpired entry, as `Cache::get` does.
@@ -140,10 +152,22 @@ impl<
             × TellsLook L.hears (keys_by K.Hash S.BuildHasher S.Hasher.Hasher) self.old.cache now self.old.listener end.listener)) }
         ensures value { option_copied result ≡ found_by_get (keys_by K.Hash S.BuildHasher S.Hasher.Hasher) self.old.cache key.now now }
     {
-        let hash = self.cache.hash_of(key);
+        self.get_by(key, now)
+    }
+
+    /// Returns the value of the key that the probe stands for, as `Cache::get_by` does.
+    pub fn get_by<Q: Lookup<K>>(&mut self, probe: Q, now: Instant) -> Option<&V>
+        ensures* step { sem 𝓛 (notifying_ends_so K.row V.row L.row S.row W.row A.row S.Hasher.row
+            K.Hash S.BuildHasher S.Hasher.Hasher A.Allocator A.Clone self.entry
+            (λ end. (end.cache ≡ after_get_where (keys_by K.Hash S.BuildHasher S.Hasher.Hasher) self.old.cache (Q.stands_for probe)
+            (hash_by S.BuildHasher S.Hasher.Hasher self.old.cache.settings.hash_state (Q.hash_input probe)) now)
+            × TellsLook L.hears (keys_by K.Hash S.BuildHasher S.Hasher.Hasher) self.old.cache now self.old.listener end.listener)) }
+        ensures value { option_copied result ≡ found_where (keys_by K.Hash S.BuildHasher S.Hasher.Hasher) self.old.cache (Q.stands_for probe) now }
+    {
+        let hash = self.cache.hash_of(probe);
         self.cache
-            .get_notifying(key, hash, now, &mut self.listener)?;
-        self.cache.stored(key, hash)
+            .get_notifying(probe, hash, now, &mut self.listener)?;
+        self.cache.stored(probe, hash)
     }
 
     /// Removes the entry of the key, as `Cache::invalidate` does.
@@ -151,9 +175,18 @@ impl<
         ensures step { self.new.cache ≡ after_invalidate (keys_by K.Hash S.BuildHasher S.Hasher.Hasher) self.old.cache key.now now }
         ensures told { TellsInvalidate L.hears (keys_by K.Hash S.BuildHasher S.Hasher.Hasher) self.old.cache now key.now self.old.listener self.new.listener }
     {
-        let hash = self.cache.hash_of(key);
+        self.invalidate_by(key, now);
+    }
+
+    /// Removes the entry of the key that the probe stands for, as `Cache::invalidate_by` does.
+    pub fn invalidate_by<Q: Lookup<K>>(&mut self, probe: Q, now: Instant)
+        ensures step { self.new.cache ≡ after_invalidate_where (keys_by K.Hash S.BuildHasher S.Hasher.Hasher) self.old.cache (Q.stands_for probe) now }
+        ensures told { TellsInvalidateWhere L.hears (keys_by K.Hash S.BuildHasher S.Hasher.Hasher) self.old.cache now (Q.stands_for probe)
+            self.old.listener self.new.listener }
+    {
+        let hash = self.cache.hash_of(probe);
         self.cache
-            .invalidate_notifying(key, hash, now, &mut self.listener);
+            .invalidate_notifying(probe, hash, now, &mut self.listener);
     }
 
     /// Removes the entry of the key and returns its value, as `Cache::remove` does. The listener doesn't get a value that is returned.
@@ -162,9 +195,20 @@ impl<
         ensures step { self.new.cache ≡ after_invalidate (keys_by K.Hash S.BuildHasher S.Hasher.Hasher) self.old.cache key.now now }
         ensures told { TellsRemove L.hears (keys_by K.Hash S.BuildHasher S.Hasher.Hasher) self.old.cache now key.now self.old.listener self.new.listener }
     {
-        let hash = self.cache.hash_of(key);
+        self.remove_by(key, now)
+    }
+
+    /// Removes the entry of the key that the probe stands for and returns its value, as `Cache::remove_by` does. The listener doesn't get a value that is
+    /// returned.
+    pub fn remove_by<Q: Lookup<K>>(&mut self, probe: Q, now: Instant) -> Option<V>
+        ensures value { result ≡ found_where (keys_by K.Hash S.BuildHasher S.Hasher.Hasher) self.old.cache (Q.stands_for probe) now }
+        ensures step { self.new.cache ≡ after_invalidate_where (keys_by K.Hash S.BuildHasher S.Hasher.Hasher) self.old.cache (Q.stands_for probe) now }
+        ensures told { TellsRemoveWhere L.hears (keys_by K.Hash S.BuildHasher S.Hasher.Hasher) self.old.cache now (Q.stands_for probe)
+            self.old.listener self.new.listener }
+    {
+        let hash = self.cache.hash_of(probe);
         self.cache
-            .remove_notifying(key, hash, now, &mut self.listener)
+            .remove_notifying(probe, hash, now, &mut self.listener)
     }
 
     /// Removes all entries, as `Cache::invalidate_all` does.

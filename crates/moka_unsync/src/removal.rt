@@ -1,7 +1,7 @@
 // Removals that the owner asks for: of a key, of all entries, and of those that a predicate chooses.
 ghost use Rattle.std.specs.Prelude.{◌≡◌, ◌++◌, ⊤, Bool, List, option_to_list, true};
 ghost use Rattle.std.specs.List.Sorted.{IsPermutation};
-ghost use Rattle.moka_unsync_model.specs.Contents.{after_leaving, entry_at, entry_keys, no_contents, without};
+ghost use Rattle.moka_unsync_model.specs.Contents.{after_leaving, entry_keys, entry_where, except, no_contents};
 ghost use Rattle.moka_unsync_model.specs.Invalidate.{AnswersInTurn, chosen};
 ghost use Rattle.moka_unsync_model.specs.Told.{TellsTaken, TellsWhatLeft};
 ghost use Rattle.moka_unsync_model.specs.declared.listener.Cause.TheVariants.{Explicit};
@@ -9,44 +9,48 @@ ghost use Rattle.moka_store.specs.Store.{Continues, HasHash, contents_of, entrie
 
 use crate::cleanup::Bounds;
 use crate::leaving::leave;
+use moka_common::lookup::Lookup;
 use moka_common::time::Instant;
 use moka_store::store::Store;
 use moka_unsync_model::entry::Entry;
 use moka_unsync_model::listener::{Cause, Listener};
 use std::alloc::Allocator;
+use std::hash::Hash;
 
-/// Removes the entry of the key, if there is one, and gives it to the listener: as expired, if it is, or else as removed. The hash is the key's.
+/// Removes the entry of the key that the probe stands for, if there is one, and gives it to the listener: as expired, if it is, or else as removed. The hash
+/// is the probe's.
 pub(crate) fn remove_notifying<
-    K: Eq + Drop,
+    K: Eq + Hash + Drop,
     V: Drop,
     A: Allocator + Clone + Drop,
+    Q: Lookup<K>,
     L: Listener<K, V>,
->(store: &mut Store<K, V, A>, bounds: &Bounds, key: &K, hash: u64, now: Instant, listener: &mut L)
-    requires { HasHash K.eq store.old key.now hash }
-    ensures step { contents_of store.new ≡ without K.eq (contents_of store.old) key.now }
+>(store: &mut Store<K, V, A>, bounds: &Bounds, probe: Q, hash: u64, now: Instant, listener: &mut L)
+    requires { HasHash (Q.stands_for probe) store.old hash }
+    ensures step { contents_of store.new ≡ except (Q.stands_for probe) (contents_of store.old) }
     ensures kept { Continues store.old store.new }
-    ensures told { TellsTaken L.hears bounds.now now Explicit (entry_at K.eq key.now (entries_of store.old)) listener.old listener.new }
+    ensures told { TellsTaken L.hears bounds.now now Explicit (entry_where (Q.stands_for probe) (entries_of store.old)) listener.old listener.new }
 {
-    if let Some(entry) = remove(store, key, hash) {
+    if let Some(entry) = remove(store, probe, hash) {
         let cause = bounds.cause_at(&entry, now, Cause::Explicit);
         let Entry { key, value, .. } = entry;
         listener.removed(key, value, cause);
     }
 }
 
-/// Takes out the entry of the key, expired or not, if there is one. The hash is the key's.
-pub(crate) fn remove<K: Eq + Drop, V: Drop, A: Allocator + Clone + Drop>(
+/// Takes out the entry of the key that the probe stands for, expired or not, if there is one. The hash is the probe's.
+pub(crate) fn remove<K: Eq + Hash + Drop, V: Drop, A: Allocator + Clone + Drop, Q: Lookup<K>>(
     store: &mut Store<K, V, A>,
-    key: &K,
+    probe: Q,
     hash: u64,
 ) -> Option<Entry<K, V>>
-    requires { HasHash K.eq store.old key.now hash }
-    ensures value { result ≡ entry_at K.eq key.now (entries_of store.old) }
+    requires { HasHash (Q.stands_for probe) store.old hash }
+    ensures value { result ≡ entry_where (Q.stands_for probe) (entries_of store.old) }
     ensures left { IsPermutation (entries_of store.old) (option_to_list result ++ entries_of store.new) }
-    ensures step { contents_of store.new ≡ without K.eq (contents_of store.old) key.now }
+    ensures step { contents_of store.new ≡ except (Q.stands_for probe) (contents_of store.old) }
     ensures kept { Continues store.old store.new }
 {
-    let id = store.find(key, hash)?;
+    let id = store.find(probe, hash)?;
     Some(store.take(id))
 }
 

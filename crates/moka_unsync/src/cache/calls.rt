@@ -1,12 +1,13 @@
 //! The calls in which entries may leave: by key, by the hash of the key, and with a listener that gets what leaves.
 ghost use Rattle.std.specs.Prelude.{◌≡◌, ⊤, Bool, List, [], None, IfErr, OnErr, OnOk, option_copied};
 ghost use Rattle.std.specs.Borrow.{sem};
-ghost use Rattle.moka_common.specs.Keys.{keys_by};
+ghost use Rattle.moka_common.specs.Keys.{hash_by, keys_by};
 ghost use Rattle.moka_unsync_model.specs.Insert.{IsInserted, IsRefused};
 ghost use Rattle.moka_unsync_model.specs.Invalidate.{AnswersInTurn, after_invalidate, after_invalidate_all, after_invalidate_if};
-ghost use Rattle.moka_unsync_model.specs.Lookup.{after_get, after_look, found_by_get, is_contained};
+ghost use Rattle.moka_unsync_model.specs.Invalidate.{after_invalidate_where};
+ghost use Rattle.moka_unsync_model.specs.Lookup.{after_get, after_get_where, after_look, found_by_get, found_where, is_contained, is_contained_where};
 ghost use Rattle.moka_unsync_model.specs.Told.{TellsWhatLeft};
-ghost use Rattle.moka_unsync_model.specs.ToldCalls.{TellsInsert, TellsInvalidate, TellsLook, TellsRemove};
+ghost use Rattle.moka_unsync_model.specs.ToldCalls.{TellsInsert, TellsInvalidateWhere, TellsLook, TellsRemoveWhere};
 ghost use Rattle.moka_unsync_model.specs.declared.listener.Cause.TheVariants.{Explicit};
 
 use crate::admission::{admit, insert_into_window};
@@ -14,6 +15,7 @@ use crate::cache::Cache;
 use crate::memory::come;
 use crate::removal::{clear, remove, remove_notifying, remove_where};
 use moka_common::error::InsertError;
+use moka_common::lookup::Lookup;
 use moka_common::time::Instant;
 use moka_common::weigh::Weigh;
 use moka_unsync_model::entry::{Entry, Part};
@@ -37,26 +39,36 @@ impl<
         ensures step { self.new
             ≡ after_look (keys_by K.Hash S.BuildHasher S.Hasher.Hasher) self.old now }
     {
-        let hash = self.hash_state.hash_one(key);
-        self.contains_notifying(key, hash, now, &mut NoListener)
+        self.contains_by(key, now)
     }
 
-    /// Returns `true` if the key has an unexpired entry, as `contains_key` does, by the key's hash. The listener gets what leaves. An owner of many caches with
-    /// one hash state hashes once.
-    pub fn contains_notifying<L: Listener<K, V>>(
+    /// Returns `true` if the key that the probe stands for has an unexpired entry, as `contains_key` does: a `&str` stands for a `String`.
+    pub fn contains_by<Q: Lookup<K>>(&mut self, probe: Q, now: Instant) -> bool
+        ensures value { result
+            ≡ is_contained_where (keys_by K.Hash S.BuildHasher S.Hasher.Hasher) self.old (Q.stands_for probe) now }
+        ensures step { self.new
+            ≡ after_look (keys_by K.Hash S.BuildHasher S.Hasher.Hasher) self.old now }
+    {
+        let hash = self.hash_of(probe);
+        self.contains_notifying(probe, hash, now, &mut NoListener)
+    }
+
+    /// Returns `true` if the key has an unexpired entry, as `contains_by` does, by the probe's hash. The listener gets what leaves. An owner of many caches
+    /// with one hash state hashes once.
+    pub fn contains_notifying<Q: Lookup<K>, L: Listener<K, V>>(
         &mut self,
-        key: &K,
+        probe: Q,
         hash: u64,
         now: Instant,
         listener: &mut L,
     ) -> bool
-        requires { hash ≡ (keys_by K.Hash S.BuildHasher S.Hasher.Hasher).hash_of self.old.settings.hash_state key.now }
-        ensures value { result ≡ is_contained (keys_by K.Hash S.BuildHasher S.Hasher.Hasher) self.old key.now now }
+        requires { hash ≡ hash_by S.BuildHasher S.Hasher.Hasher self.old.settings.hash_state (Q.hash_input probe) }
+        ensures value { result ≡ is_contained_where (keys_by K.Hash S.BuildHasher S.Hasher.Hasher) self.old (Q.stands_for probe) now }
         ensures step { self.new ≡ after_look (keys_by K.Hash S.BuildHasher S.Hasher.Hasher) self.old now }
         ensures told { TellsLook L.hears (keys_by K.Hash S.BuildHasher S.Hasher.Hasher) self.old now listener.old listener.new }
     {
         self.bounds.clean_up(&mut self.store, now, listener);
-        match self.store.find(key, hash) {
+        match self.store.find(probe, hash) {
             Some(id) => !self.bounds.is_expired(self.store.get(id), now),
             None => false,
         }
@@ -70,30 +82,42 @@ impl<
         ensures value { option_copied result
             ≡ found_by_get (keys_by K.Hash S.BuildHasher S.Hasher.Hasher) self.old key.now now }
     {
-        let hash = self.hash_state.hash_one(key);
-        self.get_notifying(key, hash, now, &mut NoListener)
+        self.get_by(key, now)
     }
 
-    /// Returns the value of the key, as `get` does, by the key's hash. The listener gets what leaves.
-    pub fn get_notifying<L: Listener<K, V>>(
+    /// Returns the value of the key that the probe stands for, as `get` does: a `&str` stands for a `String`. The probe's hash is counted, found or not.
+    pub fn get_by<Q: Lookup<K>>(&mut self, probe: Q, now: Instant) -> Option<&V>
+        ensures* step { sem 𝓛 (ends_as K.row V.row S.row W.row A.row S.Hasher.row
+            K.Hash S.BuildHasher S.Hasher.Hasher A.Allocator A.Clone self.entry
+            (after_get_where (keys_by K.Hash S.BuildHasher S.Hasher.Hasher) self.old (Q.stands_for probe)
+            (hash_by S.BuildHasher S.Hasher.Hasher self.old.settings.hash_state (Q.hash_input probe)) now)) }
+        ensures value { option_copied result
+            ≡ found_where (keys_by K.Hash S.BuildHasher S.Hasher.Hasher) self.old (Q.stands_for probe) now }
+    {
+        let hash = self.hash_of(probe);
+        self.get_notifying(probe, hash, now, &mut NoListener)
+    }
+
+    /// Returns the value of the key, as `get_by` does, by the probe's hash. The listener gets what leaves.
+    pub fn get_notifying<Q: Lookup<K>, L: Listener<K, V>>(
         &mut self,
-        key: &K,
+        probe: Q,
         hash: u64,
         now: Instant,
         listener: &mut L,
     ) -> Option<&V>
-        requires { hash ≡ (keys_by K.Hash S.BuildHasher S.Hasher.Hasher).hash_of self.old.settings.hash_state key.now }
+        requires { hash ≡ hash_by S.BuildHasher S.Hasher.Hasher self.old.settings.hash_state (Q.hash_input probe) }
         ensures* step { sem 𝓛 (ends_as K.row V.row S.row W.row A.row S.Hasher.row
             K.Hash S.BuildHasher S.Hasher.Hasher A.Allocator A.Clone self.entry
-            (after_get (keys_by K.Hash S.BuildHasher S.Hasher.Hasher) self.old key.now now)) }
-        ensures value { option_copied result ≡ found_by_get (keys_by K.Hash S.BuildHasher S.Hasher.Hasher) self.old key.now now }
+            (after_get_where (keys_by K.Hash S.BuildHasher S.Hasher.Hasher) self.old (Q.stands_for probe) hash now)) }
+        ensures value { option_copied result ≡ found_where (keys_by K.Hash S.BuildHasher S.Hasher.Hasher) self.old (Q.stands_for probe) now }
         ensures told { TellsLook L.hears (keys_by K.Hash S.BuildHasher S.Hasher.Hasher) self.old now listener.old listener.new }
     {
         self.bounds.clean_up(&mut self.store, now, listener);
         // The index is asked first, so that the processor waits for it and for the sketch at once.
         let candidates = self.store.candidates(hash);
         self.sketch.increment(hash);
-        let id = self.store.find_among(candidates, key, hash)?;
+        let id = self.store.find_among(candidates, probe, hash)?;
         if self.bounds.is_expired(self.store.get(id), now) {
             return None;
         }
@@ -106,24 +130,33 @@ impl<
         ensures step { self.new
             ≡ after_invalidate (keys_by K.Hash S.BuildHasher S.Hasher.Hasher) self.old key.now now }
     {
-        let hash = self.hash_state.hash_one(key);
-        self.invalidate_notifying(key, hash, now, &mut NoListener);
+        self.invalidate_by(key, now);
     }
 
-    /// Removes the entry of the key, as `invalidate` does, by its hash. The listener gets what leaves, the entry of the key as removed or as expired.
-    pub fn invalidate_notifying<L: Listener<K, V>>(
+    /// Removes the entry of the key that the probe stands for, as `invalidate` does: a `&str` stands for a `String`.
+    pub fn invalidate_by<Q: Lookup<K>>(&mut self, probe: Q, now: Instant)
+        ensures step { self.new
+            ≡ after_invalidate_where (keys_by K.Hash S.BuildHasher S.Hasher.Hasher) self.old (Q.stands_for probe) now }
+    {
+        let hash = self.hash_of(probe);
+        self.invalidate_notifying(probe, hash, now, &mut NoListener);
+    }
+
+    /// Removes the entry of the key, as `invalidate_by` does, by the probe's hash. The listener gets what leaves, the entry of the key as removed or as expired.
+    pub fn invalidate_notifying<Q: Lookup<K>, L: Listener<K, V>>(
         &mut self,
-        key: &K,
+        probe: Q,
         hash: u64,
         now: Instant,
         listener: &mut L,
     )
-        requires { hash ≡ (keys_by K.Hash S.BuildHasher S.Hasher.Hasher).hash_of self.old.settings.hash_state key.now }
-        ensures step { self.new ≡ after_invalidate (keys_by K.Hash S.BuildHasher S.Hasher.Hasher) self.old key.now now }
-        ensures told { TellsInvalidate L.hears (keys_by K.Hash S.BuildHasher S.Hasher.Hasher) self.old now key.now listener.old listener.new }
+        requires { hash ≡ hash_by S.BuildHasher S.Hasher.Hasher self.old.settings.hash_state (Q.hash_input probe) }
+        ensures step { self.new ≡ after_invalidate_where (keys_by K.Hash S.BuildHasher S.Hasher.Hasher) self.old (Q.stands_for probe) now }
+        ensures told { TellsInvalidateWhere L.hears (keys_by K.Hash S.BuildHasher S.Hasher.Hasher) self.old now (Q.stands_for probe)
+            listener.old listener.new }
     {
         self.bounds.clean_up(&mut self.store, now, listener);
-        remove_notifying(&mut self.store, &self.bounds, key, hash, now, listener);
+        remove_notifying(&mut self.store, &self.bounds, probe, hash, now, listener);
     }
 
     /// Removes the entry of the key, if there is one, and returns its value, unless it is expired. The value is moved out, so it needs no `Clone`.
@@ -137,25 +170,36 @@ impl<
         ensures step { self.new
             ≡ after_invalidate (keys_by K.Hash S.BuildHasher S.Hasher.Hasher) self.old key.now now }
     {
-        let hash = self.hash_state.hash_one(key);
-        self.remove_notifying(key, hash, now, &mut NoListener)
+        self.remove_by(key, now)
     }
 
-    /// Removes the entry of the key, as `remove` does, by its hash. The listener doesn't get a value that is returned.
-    pub fn remove_notifying<L: Listener<K, V>>(
+    /// Removes the entry of the key that the probe stands for and returns its value, as `remove` does: a `&str` stands for a `String`.
+    pub fn remove_by<Q: Lookup<K>>(&mut self, probe: Q, now: Instant) -> Option<V>
+        ensures value { result
+            ≡ found_where (keys_by K.Hash S.BuildHasher S.Hasher.Hasher) self.old (Q.stands_for probe) now }
+        ensures step { self.new
+            ≡ after_invalidate_where (keys_by K.Hash S.BuildHasher S.Hasher.Hasher) self.old (Q.stands_for probe) now }
+    {
+        let hash = self.hash_of(probe);
+        self.remove_notifying(probe, hash, now, &mut NoListener)
+    }
+
+    /// Removes the entry of the key, as `remove_by` does, by the probe's hash. The listener doesn't get a value that is returned.
+    pub fn remove_notifying<Q: Lookup<K>, L: Listener<K, V>>(
         &mut self,
-        key: &K,
+        probe: Q,
         hash: u64,
         now: Instant,
         listener: &mut L,
     ) -> Option<V>
-        requires { hash ≡ (keys_by K.Hash S.BuildHasher S.Hasher.Hasher).hash_of self.old.settings.hash_state key.now }
-        ensures value { result ≡ found_by_get (keys_by K.Hash S.BuildHasher S.Hasher.Hasher) self.old key.now now }
-        ensures step { self.new ≡ after_invalidate (keys_by K.Hash S.BuildHasher S.Hasher.Hasher) self.old key.now now }
-        ensures told { TellsRemove L.hears (keys_by K.Hash S.BuildHasher S.Hasher.Hasher) self.old now key.now listener.old listener.new }
+        requires { hash ≡ hash_by S.BuildHasher S.Hasher.Hasher self.old.settings.hash_state (Q.hash_input probe) }
+        ensures value { result ≡ found_where (keys_by K.Hash S.BuildHasher S.Hasher.Hasher) self.old (Q.stands_for probe) now }
+        ensures step { self.new ≡ after_invalidate_where (keys_by K.Hash S.BuildHasher S.Hasher.Hasher) self.old (Q.stands_for probe) now }
+        ensures told { TellsRemoveWhere L.hears (keys_by K.Hash S.BuildHasher S.Hasher.Hasher) self.old now (Q.stands_for probe)
+            listener.old listener.new }
     {
         self.bounds.clean_up(&mut self.store, now, listener);
-        let entry = remove(&mut self.store, key, hash)?;
+        let entry = remove(&mut self.store, probe, hash)?;
         if self.bounds.is_expired(&entry, now) {
             let Entry { key, value, .. } = entry;
             listener.removed(key, value, Cause::Expired);
@@ -227,7 +271,7 @@ impl<
         ensures error { IfErr result (λ error. error ≡ InsertError.OutOfMemory) }
         ensures ready { W.ready self.new.weigher }
     {
-        let hash = self.hash_state.hash_one(&key);
+        let hash = self.hash_of(&key);
         self.insert_notifying(key, hash, value, now, &mut NoListener)
     }
 

@@ -4,12 +4,12 @@ use Rattle.std.specs.Map.{values_of}
 use Rattle.std.proofs.lemmas.List.Sorted.{IsPermutation-refl}
 use Rattle.moka_unsync_model.proofs.ToldLemmas.{node_among}
 use Rattle.moka_store.specs.Store.{entries_of}
-use Rattle.moka_unsync.proofs.RemovalLemmas.{without-absent, without-found}
+use Rattle.moka_unsync.proofs.RemovalLemmas.{except-absent, except-found}
 use Rattle.moka_unsync.proofs.removal.remove.Goals as goal
 
 pub returns-in_err-id-clause-step : goal.returns-in_err-id-clause-step
 returns-in_err-id-clause-step g c =
-    without-absent g.K.PartialEq.eq c.args.key.now c.args.store.now ((c.in_err-id.ensures {u = tt}).absent refl)
+    except-absent (g.Q.Lookup.stands_for c.args.probe) c.args.store.now ((c.in_err-id.ensures {u = tt}).absent refl)
     ((c.in_err-id.ensures {u = tt}).unwritten refl)
 
 pub returns-clause-value : goal.returns-clause-value
@@ -18,7 +18,7 @@ returns-clause-value g c =
 
 pub returns-clause-step : goal.returns-clause-step
 returns-clause-step g c =
-    without-found g.K.PartialEq.eq g.met.K.Eq.laws c.args.key.now c.args.store.now c.take.new.self c.in_ok-id.id
+    except-found g.K.PartialEq.eq (g.Q.Lookup.stands_for c.args.probe) (g.met.Q.Lookup.stands_for_equals c.args.probe) c.args.store.now c.take.new.self c.in_ok-id.id
     (c.in_ok-id.ensures {u = tt}).found c.take.ensures.step
 
 pub returns-in_err-id-clause-left : goal.returns-in_err-id-clause-left

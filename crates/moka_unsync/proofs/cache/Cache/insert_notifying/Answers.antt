@@ -53,7 +53,8 @@ its_parts g c =
 pub find-requires : goal.find-requires
 find-requires g c =
     let at = (goal.at.find-requires g c).After-weigh in
-    has_hash g.K.PartialEq.eq g.K.Hash.hash_input g.S.BuildHasher g.S.Hasher.Hasher g.met.K.Hash.respects_eq (its_parts g at) (its_own g at)
+    has_hash (record { eq = g.K.PartialEq.eq; hash_input = g.K.Hash.hash_input }) g.S.BuildHasher g.S.Hasher.Hasher
+    (g.K.PartialEq.eq c.args.key) (g.K.Hash.hash_input c.args.key) (g.met.K.Hash.respects_eq c.args.key) (its_parts g at) (its_own g at)
 
 pub invariant_of-self-in-Some : goal.invariant_of-self-in-Some
 invariant_of-self-in-Some g c =
