@@ -159,8 +159,7 @@ uint32_t mini_moka_insert(struct mini_moka *handle, const void *key, size_t key_
  * Looks up the key, and makes its entry the most recently used one. Copies the value to the beginning of the buffer, and writes its length. If the buffer is
  * shorter, returns MINI_MOKA_TOO_SHORT and writes only the length, which counts as a hit too. (mini_moka_peek writes the length without counting.)
  *
- * This call and those of bytes below, but for mini_moka_get_or_insert and mini_moka_removed, can be refused memory only for a key of more than 24 bytes. Such a
- * key is copied into memory of the handle, which grows if it is shorter than the key.
+ * No look-up or removal copies the key, and none is refused memory.
  */
 uint32_t mini_moka_get(struct mini_moka *handle, const void *key, size_t key_length, uint64_t now, void *buffer, size_t buffer_length, size_t *length);
 
@@ -190,8 +189,8 @@ uint32_t mini_moka_invalidate(struct mini_moka *handle, const void *key, size_t 
 
 /*
  * Copies the next entry of a walk (mini_moka_walk) to the beginnings of both buffers, and writes the lengths of its key and its value. If a buffer is
- * shorter, returns MINI_MOKA_TOO_SHORT. If memory is refused, for a key of more than 24 bytes, returns MINI_MOKA_OUT_OF_MEMORY. With both the walk stays at the
- * entry, so that the call can be repeated. It doesn't count as an access.
+ * shorter, returns MINI_MOKA_TOO_SHORT. A walk keeps a copy of its last key: if memory for a key of more than 24 bytes is refused, returns
+ * MINI_MOKA_OUT_OF_MEMORY. With both the walk stays at the entry, so that the call can be repeated. It doesn't count as an access.
  */
 uint32_t mini_moka_next(struct mini_moka *handle, uint64_t now, void *key, size_t key_room, void *value, size_t value_room, size_t *key_length,
                         size_t *value_length);

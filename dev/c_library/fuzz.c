@@ -1,7 +1,7 @@
 /*
  * Compares random calls of include/mini_moka.h with a plain model: fuzz [CALLS [SEED]]. Keys and values are numbers, or have 0 to 4096 bytes. Now and then an
- * allocation within a call is refused. Keys, values and buffers adjoin each other, in blocks of exactly their length. It is linked with --wrap for malloc and
- * realloc. Prints the first difference, and exits with status 1 then.
+ * allocation within a call is refused; a look-up makes none. Keys, values and buffers adjoin each other, in blocks of exactly their length. It is linked with
+ * --wrap for malloc and realloc. Prints the first difference, and exits with status 1 then.
  *
  * Half of the caches are adaptive, and most have random shares. A window stays within its bounds, and only an insert that is done moves it.
  *
@@ -18,19 +18,6 @@
 /* ---- each call compared with the model */
 
 static uint64_t windows_moved;
-
-/* Returns true if a look-up was refused memory. It may allocate only for a key that is not short and is longer than all before it. */
-static bool is_look_up_refused(struct model *model, uint64_t key, uint32_t status) {
-    static uint8_t key_at[LONGEST];
-    size_t length = model->is_bytes ? key_bytes(key_at, key) : 0;
-    if (is_refused(status)) {
-        require(length > SHORT_KEY && length > model->longest_key, "a look-up allocated memory that the handle had");
-        return true;
-    }
-    if (length > model->longest_key)
-        model->longest_key = length;
-    return false;
-}
 
 static void write_down(struct model *model, struct known *key, uint64_t version) {
     *key = (struct known){true, version, model->now, model->now, false};
@@ -53,15 +40,13 @@ static void play_insert(struct model *model, uint64_t key) {
     /* A peek removes nothing, so it finds the entry if the insert returned MINI_MOKA_DONE. */
     allocations_left = -1;
     uint32_t found = look_up(model, mini_moka_peek, mini_moka_u64_peek, key);
-    require(!is_look_up_refused(model, key, found) && is_found(found) == (status == MINI_MOKA_DONE), "an insert returned a wrong status");
+    require(is_found(found) == (status == MINI_MOKA_DONE), "an insert returned a wrong status");
     model->keys[key].is_there = status == MINI_MOKA_DONE;
 }
 
 static void play_look_up(struct model *model, uint64_t key) {
     bool is_get = call == 1;
     uint32_t status = is_get ? look_up(model, mini_moka_get, mini_moka_u64_get, key) : look_up(model, mini_moka_peek, mini_moka_u64_peek, key);
-    if (is_look_up_refused(model, key, status))
-        return;
     meet(model, &model->keys[key], status);
     if (is_get && is_found(status)) {
         model->hits++;
@@ -72,15 +57,11 @@ static void play_look_up(struct model *model, uint64_t key) {
 }
 
 static void play_contains(struct model *model, uint64_t key) {
-    uint32_t status = contains(model, key);
-    if (!is_look_up_refused(model, key, status))
-        meet(model, &model->keys[key], status);
+    meet(model, &model->keys[key], contains(model, key));
 }
 
 static void play_remove(struct model *model, uint64_t key) {
     uint32_t status = look_up(model, mini_moka_remove, mini_moka_u64_remove, key);
-    if (is_look_up_refused(model, key, status))
-        return;
     /* A value that is returned isn't queued, but one that is expired is removed too. */
     if (status == MINI_MOKA_ABSENT && !is_alive(model, &model->keys[key]))
         note_end(model, key, CAUSES, true);
@@ -94,10 +75,7 @@ static void play_remove(struct model *model, uint64_t key) {
 }
 
 static void play_invalidate(struct model *model, uint64_t key) {
-    uint32_t status = invalidate(model, key);
-    if (is_look_up_refused(model, key, status))
-        return;
-    require(status == MINI_MOKA_DONE, "an invalidation failed");
+    require(invalidate(model, key) == MINI_MOKA_DONE, "an invalidation failed");
     model->removals += is_alive(model, &model->keys[key]);
     note_end(model, key, MINI_MOKA_CAUSE_EXPLICIT, true);
     model->keys[key].is_there = false;
@@ -141,16 +119,12 @@ static void play_get_or_insert(struct model *model, uint64_t key) {
     uint32_t status = get_or_insert(model, key, version);
     struct mini_moka_statistics after = statistics_of(model);
     if (after.misses == before.misses) {
-        /* A get that is refused memory isn't counted. */
-        if (is_look_up_refused(model, key, status))
-            return;
         meet(model, known, status);
         model->hits++;
         note_use(model, key);
         return;
     }
     model->misses++;
-    require(!is_look_up_refused(model, key, MINI_MOKA_ABSENT), "a get was refused memory and counted");
     if (is_refused(status)) {
         meet(model, known, MINI_MOKA_ABSENT);
         return;
@@ -167,7 +141,7 @@ static void play_get_or_insert(struct model *model, uint64_t key) {
     write_down(model, known, version);
     allocations_left = -1;
     uint32_t found = look_up(model, mini_moka_peek, mini_moka_u64_peek, key);
-    require(!is_look_up_refused(model, key, found) && is_found(found) == (inserted == MINI_MOKA_DONE), "a get-or-insert counted a wrong rejection");
+    require(is_found(found) == (inserted == MINI_MOKA_DONE), "a get-or-insert counted a wrong rejection");
     known->is_there = inserted == MINI_MOKA_DONE;
 }
 
@@ -266,7 +240,7 @@ static void play_walk(struct model *model) {
     for (size_t i = 0; i < KEYS; i++)
         alive += is_surely_alive(model, &model->keys[i]);
     require(met >= alive || model->capacity != MINI_MOKA_UNLIMITED, "a walk missed an entry");
-    require(!is_refused(contains(model, 0)), "a look-up of an empty key was refused memory");
+    meet(model, &model->keys[0], contains(model, 0));
     require(mini_moka_next(&model->cache, model->now, key, LONGEST, value, LONGEST, &key_length, &value_length) == MINI_MOKA_CHANGED, "a walk didn't end");
 }
 

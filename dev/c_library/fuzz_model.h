@@ -76,7 +76,6 @@ struct model {
     bool goes_back, is_swept; /* is_swept is set if the model has noted what is expired now */
     uint64_t hits, misses, inserts, rejections;
     uint64_t updates, removals; /* the most that there can be: those of entries that are live if they haven't left */
-    size_t longest_key; /* length of the longest key looked up so far, for which the handle has memory */
     size_t removed_room;
     bool is_adaptive, is_local; /* is_local is set if many keys return soon */
     uint64_t least_window, most_window;

@@ -1,5 +1,5 @@
 -- How a call on a handle of bytes tells what the call of its cache answers.
-use Rattle.std.specs.Prelude.{◌≡◌, ◌<◌, ◌⊎◌, ◌&&◌, ℕ, true, List, is_some, length, nat_le, Option, Some, None, option_map, if◌then◌else◌}
+use Rattle.std.specs.Prelude.{◌≡◌, ◌⊎◌, ◌&&◌, ℕ, true, List, is_some, length, nat_le, Option, Some, None, option_map, if◌then◌else◌}
 use Rattle.moka_unsync.specs.Contents.{entry_at}
 use Rattle.moka_unsync.specs.Insert.{IsInserted}
 use Rattle.moka_unsync.specs.Invalidate.{after_invalidate}
@@ -9,7 +9,6 @@ use Rattle.mini_moka_c.specs.declared.cache.ByteCache.{ByteCache}
 use Rattle.mini_moka_c.specs.Buffer.{IsTaken, copied_to, is_longer}
 use Rattle.mini_moka_c.specs.ByteKeys.{byte_keys, byte_weighs}
 use Rattle.mini_moka_c.specs.Inserted.{inserted_of, status_of}
-use Rattle.mini_moka_c.specs.declared.key.TheConstants.{SHORT_KEY}
 use Rattle.mini_moka_c.specs.declared.steps.Step.{Step}
 use Rattle.mini_moka_c.specs.declared.steps.Walk.TheVariants.{Ended}
 use Rattle.mini_moka_c.specs.declared.steps.Step.TheVariants as step
@@ -20,19 +19,19 @@ use Rattle.mini_moka_c.specs.declared.constants.TheConstants.{ABSENT, CHANGED, D
 use Rattle.mini_moka_c.specs.Calls.{TellsLength, TellsTruth}
 
 -- memory was refused: all entries are as they were, nothing is counted or queued, and a walk stands where it stood
-abbrev pub TellsRefusal : ℕ → ByteCache → ByteCache → Type 0
-TellsRefusal status old new = (status ≡ OUT_OF_MEMORY) × (new ≡ record old { cache = record old.cache { capacity = new.cache.capacity } })
+abbrev pub IsBytesRefusal : ByteCache → ByteCache → Type 0
+IsBytesRefusal old new = new ≡ record old { cache = record old.cache { capacity = new.cache.capacity } }
 
--- the same of a look-up, whose key is a long one then
-abbrev pub TellsLongRefused : List ℕ → ℕ → ByteCache → ByteCache → Type 0
-TellsLongRefused key status old new = (SHORT_KEY < length key) × TellsRefusal status old new
+-- a status tells of that
+abbrev pub TellsRefusal : ℕ → ByteCache → ByteCache → Type 0
+TellsRefusal status old new = (status ≡ OUT_OF_MEMORY) × IsBytesRefusal old new
 
 -- the pair was put, and is counted, and what leaves is queued
-abbrev pub IsBytesInsert : List ℕ → List ℕ → ℕ → ByteCache → ByteCache → Type 0
-IsBytesInsert key value now old new =
-    IsInserted byte_keys byte_weighs old.cache key value now new.cache
-    × (new.leaving.statistics ≡ with_insertion byte_keys old.cache now key new.cache old.leaving.statistics)
-    × told.TellsInsert queues byte_keys old.cache now key value new.cache old.leaving.removed new.leaving.removed × (new.walk ≡ Ended)
+pub record IsBytesInsert (key value : List ℕ) (now : ℕ) (old new : ByteCache) : Type 0 where
+  pub step : IsInserted byte_keys byte_weighs old.cache key value now new.cache
+  pub counts : new.leaving.statistics ≡ with_insertion byte_keys old.cache now key new.cache old.leaving.statistics
+  pub removed : told.TellsInsert queues byte_keys old.cache now key value new.cache old.leaving.removed new.leaving.removed
+  pub walk : new.walk ≡ Ended
 
 -- the pair was put, and the status says if the key has an entry now; or memory was refused
 abbrev pub TellsBytesInsert : List ℕ → List ℕ → ℕ → ℕ → ByteCache → ByteCache → Type 0
@@ -46,59 +45,53 @@ TellsBytesFound found buffer status filled written =
     TellsLength (option_map length found) (length buffer) status written × (filled ≡ copied_to buffer found)
 
 -- the key was looked up and is counted, and what cleanup removes is queued
-abbrev pub IsBytesGet : List ℕ → ℕ → ByteCache → ByteCache → Type 0
-IsBytesGet key now old new =
-    (new.cache ≡ after_get byte_keys old.cache key now)
-    × (new.leaving.statistics ≡ with_get (is_some (found_by_get byte_keys old.cache key now)) (with_cleanup byte_keys old.cache now old.leaving.statistics))
-    × told.TellsLook queues byte_keys old.cache now old.leaving.removed new.leaving.removed × (new.walk ≡ Ended)
+pub record IsBytesGet (key : List ℕ) (now : ℕ) (old new : ByteCache) : Type 0 where
+  pub step : new.cache ≡ after_get byte_keys old.cache key now
+  pub counts : new.leaving.statistics
+      ≡ with_get (is_some (found_by_get byte_keys old.cache key now)) (with_cleanup byte_keys old.cache now old.leaving.statistics)
+  pub removed : told.TellsLook queues byte_keys old.cache now old.leaving.removed new.leaving.removed
+  pub walk : new.walk ≡ Ended
 
 -- what a get finds
 abbrev pub TellsBytesGet : List ℕ → ℕ → List ℕ → ℕ → List ℕ → ℕ → ByteCache → ByteCache → Type 0
 TellsBytesGet key now buffer status filled written old new =
-    (TellsBytesFound (found_by_get byte_keys old.cache key now) buffer status filled written × IsBytesGet key now old new)
-    ⊎ TellsLongRefused key status old new
+    TellsBytesFound (found_by_get byte_keys old.cache key now) buffer status filled written × IsBytesGet key now old new
 
--- a get finds a value; or it finds none, and this one is inserted after it and told, or refused memory; or the get itself was refused memory
+-- a get finds a value; or it finds none, and this one is inserted after it and told, or refused memory
 abbrev pub TellsBytesGotOrInserted : List ℕ → List ℕ → ℕ → List ℕ → ℕ → List ℕ → ℕ → ByteCache → ByteCache → Type 0
 TellsBytesGotOrInserted key otherwise now buffer status filled written old new =
     ((is_some (found_by_get byte_keys old.cache key now) ≡ true)
     × TellsBytesFound (found_by_get byte_keys old.cache key now) buffer status filled written × IsBytesGet key now old new)
     ⊎ ((missed : ByteCache) × (found_by_get byte_keys old.cache key now ≡ None) × IsBytesGet key now old missed
     × ((TellsBytesFound (Some otherwise) buffer status filled written × IsBytesInsert key otherwise now missed new) ⊎ TellsRefusal status missed new))
-    ⊎ TellsLongRefused key status old new
 
 -- what a peek finds
 abbrev pub TellsBytesPeek : List ℕ → ℕ → List ℕ → ℕ → List ℕ → ℕ → ByteCache → ByteCache → Type 0
 TellsBytesPeek key now buffer status filled written old new =
-    (TellsBytesFound (found_by_peek byte_keys old.cache key now) buffer status filled written
-    × (new ≡ record old { lookup_key = new.lookup_key }))
-    ⊎ TellsLongRefused key status old new
+    TellsBytesFound (found_by_peek byte_keys old.cache key now) buffer status filled written × (new ≡ old)
 
 -- yes or no
 abbrev pub TellsBytesLook : List ℕ → ℕ → ℕ → ByteCache → ByteCache → Type 0
 TellsBytesLook key now status old new =
-    (TellsTruth (is_contained byte_keys old.cache key now) status × (new.cache ≡ after_look byte_keys old.cache now)
+    TellsTruth (is_contained byte_keys old.cache key now) status × (new.cache ≡ after_look byte_keys old.cache now)
     × (new.leaving.statistics ≡ with_cleanup byte_keys old.cache now old.leaving.statistics)
-    × told.TellsLook queues byte_keys old.cache now old.leaving.removed new.leaving.removed × (new.walk ≡ Ended))
-    ⊎ TellsLongRefused key status old new
+    × told.TellsLook queues byte_keys old.cache now old.leaving.removed new.leaving.removed × (new.walk ≡ Ended)
 
 -- what a removal finds, unless it is longer than the buffer and stays
 abbrev pub TellsBytesRemove : List ℕ → ℕ → List ℕ → ℕ → List ℕ → ℕ → ByteCache → ByteCache → Type 0
 TellsBytesRemove key now buffer status filled written old new =
-    ((told : Option ℕ) × TellsLength told (length buffer) status written × IsTaken old.cache key now buffer new.cache filled told
+    (told : Option ℕ) × TellsLength told (length buffer) status written × IsTaken old.cache key now buffer new.cache filled told
     × (new.leaving.statistics
     ≡ with_taken byte_keys old.cache now (is_longer (found_by_peek byte_keys old.cache key now) buffer) key old.leaving.statistics)
     × QueuesTaken byte_keys old.cache now (is_longer (found_by_peek byte_keys old.cache key now) buffer) key old.leaving.removed new.leaving.removed
-    × (new.walk ≡ Ended))
-    ⊎ TellsLongRefused key status old new
+    × (new.walk ≡ Ended)
 
 -- the entry of the key left
 abbrev pub TellsInvalidate : List ℕ → ℕ → ℕ → ByteCache → ByteCache → Type 0
 TellsInvalidate key now status old new =
-    ((status ≡ DONE) × (new.cache ≡ after_invalidate byte_keys old.cache key now)
+    (status ≡ DONE) × (new.cache ≡ after_invalidate byte_keys old.cache key now)
     × (new.leaving.statistics ≡ with_remove byte_keys old.cache now key old.leaving.statistics)
-    × told.TellsInvalidate queues byte_keys old.cache now key old.leaving.removed new.leaving.removed × (new.walk ≡ Ended))
-    ⊎ TellsLongRefused key status old new
+    × told.TellsInvalidate queues byte_keys old.cache now key old.leaving.removed new.leaving.removed × (new.walk ≡ Ended)
 
 -- a walk has ended, each entry was met, or the lengths of the next one are written, and whether buffers of these lengths have it is told
 abbrev pub TellsStep : Step → ℕ → ℕ → ℕ → ℕ → ℕ → Type 0

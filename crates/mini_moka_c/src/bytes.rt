@@ -1,5 +1,5 @@
 // The calls of a cache of bytes. Each borrows the cache from its handle, and makes one call of it.
-ghost use Rattle.std.specs.Prelude.{◌≡◌, ◌≢◌, false, IfErr, IfOk, MatchResult, Some};
+ghost use Rattle.std.specs.Prelude.{◌≡◌, ◌≢◌, false, IfErr, IfOk, Some};
 ghost use Rattle.mini_moka_c.specs.ByteCalls.{TellsBytesFound, TellsBytesGet, TellsBytesGotOrInserted, TellsBytesInsert, TellsBytesLook, TellsBytesPeek};
 ghost use Rattle.mini_moka_c.specs.ByteCalls.{TellsBytesRemove, TellsInvalidate};
 ghost use Rattle.mini_moka_c.specs.Calls.{OnBytes, OnOpen, TellsLength};
@@ -7,8 +7,8 @@ ghost use Rattle.mini_moka_c.specs.Opening.{IsBytesKept, IsOpening, refusal_of, 
 
 use crate::constants::{ABSENT, ALREADY_OPEN, DONE, OUT_OF_MEMORY, TOO_SHORT};
 use crate::handle::{AnyCache, Handle};
+use crate::key::Bytes;
 use crate::settings::{ByteSettings, build_bytes, settings_fault};
-use moka_common::error::OutOfMemory;
 use moka_common::time::Instant;
 use std::alloc::Global;
 
@@ -140,12 +140,14 @@ pub extern "C" fn mini_moka_get_or_insert(
     match handle.bytes() {
         Ok(bytes) => {
             let now = Instant::from_nanos(now);
-            match bytes.get(key, now, buffer) {
-                Ok(None) => match bytes.insert(alloc, key, otherwise, now) {
-                    Ok(_) => tell_copy(otherwise, buffer, length),
-                    Err(_) => OUT_OF_MEMORY,
-                },
-                found => tell(found, buffer.len(), length),
+            let hash = bytes.cache.hash_of(Bytes::of(key));
+            let found = bytes.get_hashed(key, hash, now, buffer);
+            if found.is_some() {
+                return tell(found, buffer.len(), length);
+            }
+            match bytes.insert_hashed(alloc, key, hash, otherwise, now) {
+                Ok(_) => tell_copy(otherwise, buffer, length),
+                Err(_) => OUT_OF_MEMORY,
             }
         }
         Err(status) => status,
@@ -158,11 +160,10 @@ pub extern "C" fn mini_moka_contains(handle: &mut Handle, key: &[u8], now: u64) 
     ensures { OnOpen handle.old.value result handle.new.value (OnBytes result (TellsBytesLook key.now now result)) }
 {
     match handle.bytes() {
-        Ok(bytes) => match bytes.contains(key, Instant::from_nanos(now)) {
-            Ok(true) => DONE,
-            Ok(false) => ABSENT,
-            Err(_) => OUT_OF_MEMORY,
-        },
+        Ok(bytes) => {
+            let is_there = bytes.contains(key, Instant::from_nanos(now));
+            if is_there { DONE } else { ABSENT }
+        }
         Err(status) => status,
     }
 }
@@ -197,10 +198,10 @@ pub extern "C" fn mini_moka_invalidate(handle: &mut Handle, key: &[u8], now: u64
     ensures { OnOpen handle.old.value result handle.new.value (OnBytes result (TellsInvalidate key.now now result)) }
 {
     match handle.bytes() {
-        Ok(bytes) => match bytes.invalidate(key, Instant::from_nanos(now)) {
-            Ok(()) => DONE,
-            Err(_) => OUT_OF_MEMORY,
-        },
+        Ok(bytes) => {
+            bytes.invalidate(key, Instant::from_nanos(now));
+            DONE
+        }
         Err(status) => status,
     }
 }
@@ -219,16 +220,15 @@ fn tell_copy(value: &[u8], buffer: &mut [u8], length: &mut usize) -> u32
 }
 
 /// Writes the length of a found value. Answers `DONE` if it fits in a buffer of `room` bytes, else `TOO_SHORT`.
-fn tell(found: Result<Option<usize>, OutOfMemory>, room: usize, length: &mut usize) -> u32
-    ensures found { MatchResult found (λ known. TellsLength known room result length.new) (λ _. result ≡ OUT_OF_MEMORY) }
+fn tell(found: Option<usize>, room: usize, length: &mut usize) -> u32
+    ensures found { TellsLength found room result length.new }
     ensures unchanged { result ≢ DONE → result ≢ TOO_SHORT → length.new ≡ length.old }
 {
     match found {
-        Ok(Some(known)) => {
+        Some(known) => {
             *length = known;
             if known <= room { DONE } else { TOO_SHORT }
         }
-        Ok(None) => ABSENT,
-        Err(_) => OUT_OF_MEMORY,
+        None => ABSENT,
     }
 }

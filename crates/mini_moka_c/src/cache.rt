@@ -1,25 +1,25 @@
 //! A cache of bytes.
-ghost use Rattle.std.specs.Prelude.{◌≡◌, ◌<◌, ⊤, [], length, nat_le, IfErr, IfOk, is_some, None, OnErr, OnOk, option_copied, option_map};
+ghost use Rattle.std.specs.Prelude.{◌≡◌, ⊤, [], length, nat_le, IfErr, IfOk, is_some, None, OnErr, OnOk, option_copied, option_map};
 ghost use Rattle.std.specs.Map.Iter.{deref_pair};
 ghost use Rattle.moka_unsync.specs.Builder.{IsBuilt, refusal_of};
 ghost use Rattle.moka_unsync.specs.Contents.{entry_at};
-ghost use Rattle.moka_unsync.specs.Insert.{IsInserted};
 ghost use Rattle.moka_unsync.specs.Invalidate.{after_invalidate, after_invalidate_all};
-ghost use Rattle.moka_unsync.specs.Lookup.{after_get, after_look, found_by_get, found_by_peek, is_contained};
+ghost use Rattle.moka_unsync.specs.Lookup.{after_look, found_by_get, found_by_peek, is_contained};
 ghost use Rattle.moka_unsync_model.specs.Told.{TellsWhatLeft};
-ghost use Rattle.moka_unsync_model.specs.ToldCalls.{TellsInsert, TellsInvalidate, TellsLook};
+ghost use Rattle.moka_unsync_model.specs.ToldCalls.{TellsInvalidate, TellsLook};
 ghost use Rattle.moka_unsync_model.specs.declared.listener.Cause.TheVariants.{Explicit};
 ghost use Rattle.mini_moka_c.specs.Buffer.{IsTaken, copied_to, is_longer};
-ghost use Rattle.mini_moka_c.specs.ByteKeys.{byte_keys, byte_weighs};
+ghost use Rattle.mini_moka_c.specs.ByteCalls.{IsBytesGet, IsBytesInsert, IsBytesRefusal};
+ghost use Rattle.mini_moka_c.specs.ByteKeys.{byte_keys};
 ghost use Rattle.mini_moka_c.specs.Inserted.{inserted_of};
 ghost use Rattle.mini_moka_c.specs.Drain.{drained_by, drained_of, pair_of};
 ghost use Rattle.mini_moka_c.specs.Removed.{QueuesTaken, oldest, queues};
 ghost use Rattle.mini_moka_c.specs.Walk.{IsLong, fitting, met_after, next_pair, step_of, walk_after};
 ghost use Rattle.mini_moka_c.specs.declared.steps.Walk.TheVariants.{AtStart, Ended};
-ghost use Rattle.mini_moka_c.specs.Statistics.{no_statistics, with_clearing, with_get, with_insertion, with_remove, with_taken, with_cleanup};
+ghost use Rattle.mini_moka_c.specs.Statistics.{no_statistics, with_clearing, with_remove, with_taken, with_cleanup};
 
 use crate::inserted::Inserted;
-use crate::key::{Key, SHORT_KEY};
+use crate::key::{Bytes, Key};
 use crate::removed::{Drained, Leaving, RemovedQueue};
 use crate::seed::Seed;
 use crate::statistics::Statistics;
@@ -34,15 +34,13 @@ use std::alloc::Global;
 
 /// A cache for one thread whose keys and values are bytes. It copies in what it is given, and copies out what it finds.
 ///
-/// A look-up of a key of up to `SHORT_KEY` bytes asks for no memory. It copies a longer key into memory that the cache keeps, so it asks for none once that is
-/// long enough; if it is refused, nothing is done.
+/// A look-up copies no key, so it asks for no memory. A walk keeps a copy of the key that it met last, which asks for memory if the key is longer than
+/// `SHORT_KEY` bytes and than those before.
 #[derive(Drop)]
 pub struct ByteCache {
     pub cache: Cache<Key, Value, Seed, ByteWeight>,
     /// Counts of the calls, and entries that left and aren't drained.
     pub leaving: Leaving<Key, Value>,
-    // The key that is looked for.
-    lookup_key: Key,
     walk: Walk,
     // The key that the walk met last.
     walk_key: Key,
@@ -69,7 +67,6 @@ impl ByteCache {
                 removed,
                 inserted: Inserted::Stored,
             },
-            lookup_key: Key::new(alloc),
             walk: Walk::Ended,
             walk_key: Key::new(alloc),
         })
@@ -85,17 +82,30 @@ impl ByteCache {
         now: Instant,
     ) -> Result<Inserted, InsertError>
         ensures answer { IfOk result (λ inserted. inserted ≡ inserted_of (is_some (entry_at byte_keys.eq key.now self.new.cache.contents.entries))) }
-        ensures step { OnOk result (IsInserted byte_keys byte_weighs self.old.cache key.now value.now now self.new.cache) }
-        ensures counts { OnOk result (self.new.leaving.statistics ≡ with_insertion byte_keys self.old.cache now key.now self.new.cache
-            self.old.leaving.statistics) }
-        ensures removed { OnOk result (TellsInsert queues byte_keys self.old.cache now key.now value.now self.new.cache self.old.leaving.removed
-            self.new.leaving.removed) }
-        ensures walk { OnOk result (self.new.walk ≡ Ended) }
-        ensures refused { OnErr result (self.new ≡ record self.old { cache = record self.old.cache { capacity = self.new.cache.capacity } }) }
+        ensures step { OnOk result (IsBytesInsert key.now value.now now self.old self.new) }
+        ensures refused { OnErr result (IsBytesRefusal self.old self.new) }
+        ensures error { IfErr result (λ error. error ≡ InsertError.OutOfMemory) }
+    {
+        let hash = self.cache.hash_of(Bytes::of(key));
+        self.insert_hashed(alloc, key, hash, value, now)
+    }
+
+    /// Puts a copy of the value at a copy of the key, as `insert` does, by the key's hash.
+    pub(crate) fn insert_hashed(
+        &mut self,
+        alloc: Global,
+        key: &[u8],
+        hash: u64,
+        value: &[u8],
+        now: Instant,
+    ) -> Result<Inserted, InsertError>
+        requires { hash ≡ byte_keys.hash_of self.old.cache.settings.hash_state key.now }
+        ensures answer { IfOk result (λ inserted. inserted ≡ inserted_of (is_some (entry_at byte_keys.eq key.now self.new.cache.contents.entries))) }
+        ensures step { OnOk result (IsBytesInsert key.now value.now now self.old self.new) }
+        ensures refused { OnErr result (IsBytesRefusal self.old self.new) }
         ensures error { IfErr result (λ error. error ≡ InsertError.OutOfMemory) }
     {
         let (key, value) = copies(alloc, key, value)?;
-        let hash = self.cache.hash_of(&key);
         let before = self.leaving.inserted;
         self.leaving.inserted = Inserted::Stored;
         if let Err(refused) = self
@@ -111,118 +121,99 @@ impl ByteCache {
     }
 
     /// Looks the key up as `Cache::get` does. It copies the value to the beginning of the buffer, if it fits, and answers its length.
-    pub fn get(
+    pub fn get(&mut self, key: &[u8], now: Instant, buffer: &mut [u8]) -> Option<usize>
+        ensures value { result ≡ option_map length (found_by_get byte_keys self.old.cache key.now now) }
+        ensures copied { buffer.new ≡ copied_to buffer.old (found_by_get byte_keys self.old.cache key.now now) }
+        ensures step { IsBytesGet key.now now self.old self.new }
+    {
+        let hash = self.cache.hash_of(Bytes::of(key));
+        self.get_hashed(key, hash, now, buffer)
+    }
+
+    /// Looks the key up as `get` does, by the key's hash.
+    pub(crate) fn get_hashed(
         &mut self,
         key: &[u8],
+        hash: u64,
         now: Instant,
         buffer: &mut [u8],
-    ) -> Result<Option<usize>, OutOfMemory>
-        ensures value { IfOk result (λ found. found ≡ option_map length (found_by_get byte_keys self.old.cache key.now now)) }
-        ensures copied { OnOk result (buffer.new ≡ copied_to buffer.old (found_by_get byte_keys self.old.cache key.now now)) }
-        ensures step { OnOk result (self.new.cache ≡ after_get byte_keys self.old.cache key.now now) }
-        ensures counts { OnOk result (self.new.leaving.statistics
-            ≡ with_get (is_some (found_by_get byte_keys self.old.cache key.now now)) (with_cleanup byte_keys self.old.cache now self.old.leaving.statistics)) }
-        ensures removed { OnOk result (TellsLook queues byte_keys self.old.cache now self.old.leaving.removed self.new.leaving.removed) }
-        ensures walk { OnOk result (self.new.walk ≡ Ended) }
-        ensures refused { OnErr result ((self.new ≡ self.old) × (buffer.new ≡ buffer.old)) }
-        ensures short { OnErr result (SHORT_KEY < length key.now) }
+    ) -> Option<usize>
+        requires { hash ≡ byte_keys.hash_of self.old.cache.settings.hash_state key.now }
+        ensures value { result ≡ option_map length (found_by_get byte_keys self.old.cache key.now now) }
+        ensures copied { buffer.new ≡ copied_to buffer.old (found_by_get byte_keys self.old.cache key.now now) }
+        ensures step { IsBytesGet key.now now self.old self.new }
     {
-        self.lookup_key.set(key)?;
         self.walk = Walk::Ended;
-        let hash = self.cache.hash_of(&self.lookup_key);
         let value = self
             .cache
-            .get_notifying(&self.lookup_key, hash, now, &mut self.leaving);
+            .get_notifying(Bytes::of(key), hash, now, &mut self.leaving);
         let found = copied(value, buffer);
         self.leaving.statistics.count_get(found.is_some());
-        Ok(found)
+        found
     }
 
     /// Looks the key up as `Cache::peek` does.
-    pub fn peek(
-        &mut self,
-        key: &[u8],
-        now: Instant,
-        buffer: &mut [u8],
-    ) -> Result<Option<usize>, OutOfMemory>
-        ensures value { IfOk result (λ found. found ≡ option_map length (found_by_peek byte_keys self.old.cache key.now now)) }
-        ensures copied { OnOk result (buffer.new ≡ copied_to buffer.old (found_by_peek byte_keys self.old.cache key.now now)) }
-        ensures rest { self.new ≡ record self.old { lookup_key = self.new.lookup_key } }
-        ensures refused { OnErr result ((self.new ≡ self.old) × (buffer.new ≡ buffer.old)) }
-        ensures short { OnErr result (SHORT_KEY < length key.now) }
+    pub fn peek(&self, key: &[u8], now: Instant, buffer: &mut [u8]) -> Option<usize>
+        ensures value { result ≡ option_map length (found_by_peek byte_keys self.now.cache key.now now) }
+        ensures copied { buffer.new ≡ copied_to buffer.old (found_by_peek byte_keys self.now.cache key.now now) }
     {
-        self.lookup_key.set(key)?;
-        Ok(copied(self.cache.peek(&self.lookup_key, now), buffer))
+        copied(self.cache.peek_by(Bytes::of(key), now), buffer)
     }
 
     /// Returns `true` if the key has an unexpired entry, as `Cache::contains_key` does.
-    pub fn contains(&mut self, key: &[u8], now: Instant) -> Result<bool, OutOfMemory>
-        ensures value { IfOk result (λ there. there ≡ is_contained byte_keys self.old.cache key.now now) }
-        ensures step { OnOk result (self.new.cache ≡ after_look byte_keys self.old.cache now) }
-        ensures counts { OnOk result (self.new.leaving.statistics ≡ with_cleanup byte_keys self.old.cache now self.old.leaving.statistics) }
-        ensures removed { OnOk result (TellsLook queues byte_keys self.old.cache now self.old.leaving.removed self.new.leaving.removed) }
-        ensures walk { OnOk result (self.new.walk ≡ Ended) }
-        ensures refused { OnErr result (self.new ≡ self.old) }
-        ensures short { OnErr result (SHORT_KEY < length key.now) }
+    pub fn contains(&mut self, key: &[u8], now: Instant) -> bool
+        ensures value { result ≡ is_contained byte_keys self.old.cache key.now now }
+        ensures step { self.new.cache ≡ after_look byte_keys self.old.cache now }
+        ensures counts { self.new.leaving.statistics ≡ with_cleanup byte_keys self.old.cache now self.old.leaving.statistics }
+        ensures removed { TellsLook queues byte_keys self.old.cache now self.old.leaving.removed self.new.leaving.removed }
+        ensures walk { self.new.walk ≡ Ended }
     {
-        self.lookup_key.set(key)?;
         self.walk = Walk::Ended;
-        let hash = self.cache.hash_of(&self.lookup_key);
-        Ok(
-            self.cache
-                .contains_notifying(&self.lookup_key, hash, now, &mut self.leaving),
-        )
+        let key = Bytes::of(key);
+        let hash = self.cache.hash_of(key);
+        self.cache
+            .contains_notifying(key, hash, now, &mut self.leaving)
     }
 
     /// Removes the entry of the key, as `Cache::remove` does, and returns the length of its value, which it copies as `get` does. An entry whose value is
     /// longer than the buffer stays.
-    pub fn remove(
-        &mut self,
-        key: &[u8],
-        now: Instant,
-        buffer: &mut [u8],
-    ) -> Result<Option<usize>, OutOfMemory>
-        ensures step { IfOk result (IsTaken self.old.cache key.now now buffer.old self.new.cache buffer.new) }
-        ensures walk { OnOk result (self.new.walk ≡ Ended) }
-        ensures refused { OnErr result ((self.new ≡ self.old) × (buffer.new ≡ buffer.old)) }
-        ensures counts { OnOk result (self.new.leaving.statistics
+    pub fn remove(&mut self, key: &[u8], now: Instant, buffer: &mut [u8]) -> Option<usize>
+        ensures step { IsTaken self.old.cache key.now now buffer.old self.new.cache buffer.new result }
+        ensures walk { self.new.walk ≡ Ended }
+        ensures counts { self.new.leaving.statistics
             ≡ with_taken byte_keys self.old.cache now (is_longer (found_by_peek byte_keys self.old.cache key.now now) buffer.old) key.now
-            self.old.leaving.statistics) }
-        ensures removed { OnOk result (QueuesTaken byte_keys self.old.cache now
-            (is_longer (found_by_peek byte_keys self.old.cache key.now now) buffer.old) key.now self.old.leaving.removed self.new.leaving.removed) }
-        ensures short { OnErr result (SHORT_KEY < length key.now) }
+            self.old.leaving.statistics }
+        ensures removed { QueuesTaken byte_keys self.old.cache now
+            (is_longer (found_by_peek byte_keys self.old.cache key.now now) buffer.old) key.now self.old.leaving.removed self.new.leaving.removed }
     {
-        self.lookup_key.set(key)?;
         self.walk = Walk::Ended;
-        if let Some(value) = self.cache.peek(&self.lookup_key, now) {
+        let key = Bytes::of(key);
+        let hash = self.cache.hash_of(key);
+        if let Some(value) = self.cache.peek_hashed(key, hash, now) {
             let length = value.as_slice().len();
             if length > buffer.len() {
-                return Ok(Some(length));
+                return Some(length);
             }
         }
-        let hash = self.cache.hash_of(&self.lookup_key);
         let value = self
             .cache
-            .remove_notifying(&self.lookup_key, hash, now, &mut self.leaving);
+            .remove_notifying(key, hash, now, &mut self.leaving);
         self.leaving.statistics.count_removal(value.is_some());
-        Ok(copied(value.as_ref(), buffer))
+        copied(value.as_ref(), buffer)
     }
 
     /// Removes the entry of the key, if there is one.
-    pub fn invalidate(&mut self, key: &[u8], now: Instant) -> Result<(), OutOfMemory>
-        ensures step { OnOk result (self.new.cache ≡ after_invalidate byte_keys self.old.cache key.now now) }
-        ensures walk { OnOk result (self.new.walk ≡ Ended) }
-        ensures refused { OnErr result (self.new ≡ self.old) }
-        ensures counts { OnOk result (self.new.leaving.statistics ≡ with_remove byte_keys self.old.cache now key.now self.old.leaving.statistics) }
-        ensures removed { OnOk result (TellsInvalidate queues byte_keys self.old.cache now key.now self.old.leaving.removed self.new.leaving.removed) }
-        ensures short { OnErr result (SHORT_KEY < length key.now) }
+    pub fn invalidate(&mut self, key: &[u8], now: Instant)
+        ensures step { self.new.cache ≡ after_invalidate byte_keys self.old.cache key.now now }
+        ensures walk { self.new.walk ≡ Ended }
+        ensures counts { self.new.leaving.statistics ≡ with_remove byte_keys self.old.cache now key.now self.old.leaving.statistics }
+        ensures removed { TellsInvalidate queues byte_keys self.old.cache now key.now self.old.leaving.removed self.new.leaving.removed }
     {
-        self.lookup_key.set(key)?;
         self.walk = Walk::Ended;
-        let hash = self.cache.hash_of(&self.lookup_key);
+        let key = Bytes::of(key);
+        let hash = self.cache.hash_of(key);
         self.cache
-            .invalidate_notifying(&self.lookup_key, hash, now, &mut self.leaving);
-        Ok(())
+            .invalidate_notifying(key, hash, now, &mut self.leaving);
     }
 
     /// Removes all entries.

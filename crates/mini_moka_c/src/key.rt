@@ -6,6 +6,7 @@ ghost use Rattle.std.specs.Cmp.Rules.{hashing};
 ghost use Rattle.std.proofs.Common.{rules};
 
 use moka_common::error::OutOfMemory;
+use moka_common::lookup::Lookup;
 use smallvec::SmallVec;
 use std::alloc::Global;
 use std::hash::{Hash, Hasher};
@@ -98,5 +99,60 @@ impl Hash for Key {
 
     fn hash<H: Hasher>(&self, state: &mut H) {
         state.write(self.as_slice());
+    }
+}
+
+/// The bytes of a key that is looked for, which stand for it without a copy.
+#[derive(Clone, Copy)]
+pub struct Bytes<'a> {
+    bytes: &'a [u8],
+}
+
+impl<'a> Model for Bytes<'a> {
+    ghost use Rattle.std.specs.Prelude.{List, ℕ};
+
+    ghost Value = { List ℕ };
+
+    ghost view = { λ bytes. bytes.bytes.now };
+}
+
+impl<'a> Bytes<'a> {
+    /// Takes these bytes.
+    pub fn of(bytes: &'a [u8]) -> Bytes<'a>
+        ensures { result ≡ bytes.now }
+    {
+        Bytes { bytes }
+    }
+}
+
+impl<'a> PartialEq for Bytes<'a> {
+    ghost eq = { pointwise nat_eq };
+
+    ghost laws = { partial_equiv_from_equiv nat_list_eq_equiv };
+
+    fn eq(&self, other: &Bytes<'a>) -> bool {
+        self.bytes == other.bytes
+    }
+}
+
+impl<'a> Hash for Bytes<'a> {
+    ghost hash_input = { λ bytes. bytes ∷ [] };
+
+    ghost respects_eq = { Prim.search (hashing, rules) };
+
+    fn hash<H: Hasher>(&self, state: &mut H) {
+        state.write(self.bytes);
+    }
+}
+
+impl<'a> Lookup<Key> for Bytes<'a> {
+    ghost stands_for = { pointwise nat_eq };
+
+    ghost hashes_alike = { Prim.search (hashing, rules) };
+
+    ghost stands_for_equals = { nat_list_eq_equiv.congr };
+
+    fn stands_for(&self, key: &Key) -> bool {
+        self.bytes == key.as_slice()
     }
 }

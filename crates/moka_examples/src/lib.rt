@@ -7,5 +7,6 @@ pub mod calling;
 pub mod configuration;
 pub mod metrics;
 pub mod pages;
+pub mod probes;
 pub mod shared;
 pub mod uses;

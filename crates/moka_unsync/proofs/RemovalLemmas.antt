@@ -30,7 +30,7 @@ module _ {K V : Type 0} (test : K → Bool) where
   except-absent store none unwritten = λ i. record { entries = sym (entries-absent (entries_of store) none) i; written = sym unwritten i }
 
   -- the key of one that is found passes
-  found_passes : (e : Entry K V) (entries : List (Entry K V)) → entry_where test entries ≡ Some e → test e.key ≡ true
+  pub found_passes : (e : Entry K V) (entries : List (Entry K V)) → entry_where test entries ≡ Some e → test e.key ≡ true
   found_passes e [] h = absurd (false≢true (ap is_some h))
   found_passes e (x ∷ es) h =
       elim (cases_Bool (test x.key)) [

@@ -1,17 +1,18 @@
 -- Lemmas on the value that a get leaves.
-use Rattle.std.proofs.Common.{◌≡◌, ◌∙◌, ℕ, Bool, true, Option, Some, None, cond, option_map, ap, is_some, refl}
+use Rattle.std.proofs.Common.{◌≡◌, ◌∙◌, ℕ, Bool, true, Option, Some, None, cond, option_map, ap, is_some, refl, subst, sym}
 use Rattle.std.proofs.lemmas.Bool.{false≢true}
 use Rattle.std.specs.Cmp.{IsEquivalence}
 use Rattle.moka_common.specs.Keys.{Keys}
 use Rattle.moka_common.specs.Policy.{Policy}
 use Rattle.moka_unsync_model.specs.declared.entry.Entry.{Entry}
 use Rattle.moka_unsync_model.specs.CacheState.{CacheState, room_of}
-use Rattle.moka_unsync_model.specs.Contents.{Contents, entry_at}
-use Rattle.moka_unsync_model.specs.Lookup.{after_get, after_look, after_search, after_use, found_by_get, unexpired_at}
+use Rattle.moka_unsync_model.specs.Contents.{Contents, entry_at, entry_where}
+use Rattle.moka_unsync_model.specs.Lookup.{after_get_where, after_look, after_search, after_search_where, after_use, found_where, unexpired_at, unexpired_where}
 use Rattle.moka_unsync_model.proofs.ContentsLemmas.{found_key}
 use Rattle.moka_unsync_model.proofs.MapLemmas.{entry_at-using}
 use Rattle.moka_unsync_model.proofs.OwnLemmas.{unexpired-found}
 use Rattle.moka_unsync_model.proofs.PartLemmas.{placed}
+use Rattle.moka_unsync.proofs.RemovalLemmas.{found_passes}
 
 module _ {K V : Type 0} {eq : K → K → Bool} (laws : IsEquivalence eq) where
   -- an entry that is used keeps its value
@@ -26,17 +27,27 @@ module _ {K V : Type 0} {eq : K → K → Bool} (laws : IsEquivalence eq) where
       ∙ (ap (option_map (λ x. x.value)) at
       ∙ ap (λ b. option_map (λ x. x.value) (placed f (cond b (Some used) (entry_at eq key contents.entries)))) equal)
 
-module _ {K V S W : Type 0} (keys : Keys K S) (laws : IsEquivalence keys.eq) (old : CacheState K V S W) (key : K) (now : ℕ) where
-  -- the value that a get finds is stored once it is done
-  pub got_value : (value : V) → found_by_get keys old key now ≡ Some value
-      → option_map (λ x. x.value) (entry_at keys.eq key (after_get keys old key now).contents.entries) ≡ Some value
-  got_value value h =
-      by (unexpired_at keys.eq old.settings.policy now key (after_look keys old now).contents)
-      (λ e found. used_value laws (room_of old) now old.settings.policy key e (after_look keys old now).contents found) h
+module _ {K V S W : Type 0} (keys : Keys K S) (laws : IsEquivalence keys.eq) (old : CacheState K V S W) (test : K → Bool)
+    (equals : (x y : K) → test x ≡ true → test y ≡ keys.eq x y) (hash now : ℕ) where
+  -- the value that a get finds is stored once it is done: the test passes just the keys that are equal to one that passes
+  pub got_value : (value : V) → found_where keys old test now ≡ Some value
+      → option_map (λ x. x.value) (entry_where test (after_get_where keys old test hash now).contents.entries) ≡ Some value
+  got_value value h = by (unexpired_where old.settings.policy now test kept) used h
     where
-      left : Option V
-      left = option_map (λ x. x.value) (entry_at keys.eq key (after_get keys old key now).contents.entries)
+      kept : Contents K V
+      kept = (after_look keys old now).contents
 
-      by : (o : Option (Entry K V)) → ((e : Entry K V) → o ≡ Some e → left ≡ Some e.value) → option_map (λ x. x.value) o ≡ Some value → left ≡ Some value
-      by None used none = absurd (false≢true (ap is_some none))
-      by (Some e) used same = used e refl ∙ same
+      left : (K → Bool) → Option V
+      left t = option_map (λ x. x.value) (entry_where t (after_search_where keys.eq (room_of old) old.settings.policy now t kept).entries)
+
+      used : (e : Entry K V) → unexpired_where old.settings.policy now test kept ≡ Some e → left test ≡ Some e.value
+      used e found =
+          let stands = found_passes test e kept.entries (unexpired-found old.settings.policy now (entry_where test kept.entries) e found) in
+          let same : test ≡ keys.eq e.key = λ i x. equals e.key x stands i in
+          subst (λ t. unexpired_where old.settings.policy now t kept ≡ Some e → left t ≡ Some e.value) (sym same)
+          (used_value laws (room_of old) now old.settings.policy e.key e kept) found
+
+      by : (o : Option (Entry K V)) → ((e : Entry K V) → o ≡ Some e → left test ≡ Some e.value) → option_map (λ x. x.value) o ≡ Some value
+          → left test ≡ Some value
+      by None uses none = absurd (false≢true (ap is_some none))
+      by (Some e) uses same = uses e refl ∙ same

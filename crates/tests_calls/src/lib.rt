@@ -19,6 +19,8 @@ mod list;
 #[cfg(test)]
 mod listener;
 #[cfg(test)]
+mod probes;
+#[cfg(test)]
 mod shared;
 #[cfg(test)]
 mod shares;

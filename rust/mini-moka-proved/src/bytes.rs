@@ -59,18 +59,17 @@ const SHORT: usize = 256;
 ///
 /// # Memory
 ///
-/// No call aborts or panics if memory is refused. `get`, `peek` and `contains_key` then return the
-/// result for a key without an entry; [`try_get`](Self::try_get) distinguishes the two. Other calls
-/// that need memory return [`OutOfMemory`].
+/// No call aborts or panics if memory is refused. `get` and `peek` then return the result for a key
+/// without an entry; [`try_get`](Self::try_get) distinguishes the two. Other calls that need memory
+/// return [`OutOfMemory`].
 ///
 /// # Cost
 ///
 /// A call with a key takes constant time on average, plus the time to copy the key and the value.
 /// All but [`peek`](Self::peek) first remove expired entries, a few hundred at most.
 ///
-/// A key of up to 24 bytes is stored in its entry, and looking it up allocates only the value's
-/// copy. A look-up copies a longer key into memory that the cache keeps, which grows if it is
-/// shorter than the key.
+/// A look-up copies no key, and allocates only the value's copy. A key of up to 24 bytes is stored
+/// in its entry, and a longer one has memory of its own.
 ///
 /// An insert into a cache whose memory is full takes time linear in the number of entries. There is
 /// none if the cache never has more entries than its [`ByteBuilder::initial_capacity`]. Dropping a cache
@@ -159,8 +158,7 @@ impl ByteCache {
     ///
     /// # Errors
     ///
-    /// [`OutOfMemory`] if memory is refused for the value's copy, or for a key of more than 24
-    /// bytes.
+    /// [`OutOfMemory`] if memory is refused for the value's copy.
     pub fn try_get(&mut self, key: impl AsRef<[u8]>) -> Result<Option<Vec<u8>>, OutOfMemory> {
         self.try_get_at(key, self.now())
     }
@@ -198,7 +196,7 @@ impl ByteCache {
     ///
     /// # Errors
     ///
-    /// [`OutOfMemory`] if memory is refused for the buffer, or for a key of more than 24 bytes.
+    /// [`OutOfMemory`] if memory is refused for the buffer.
     pub fn get_into(
         &mut self,
         key: impl AsRef<[u8]>,
@@ -242,8 +240,7 @@ impl ByteCache {
 
     /// Looks up the key as [`contains_key`](Self::contains_key) does, at the moment `now`.
     pub fn contains_key_at(&mut self, key: impl AsRef<[u8]>, now: Duration) -> bool {
-        let found = self.handle.contains(key.as_ref(), nanoseconds(now));
-        found.unwrap_or(false)
+        self.handle.contains(key.as_ref(), nanoseconds(now))
     }
 
     /// Looks up the key as [`get`](Self::get) does, and inserts the value that `make` returns if
@@ -263,8 +260,8 @@ impl ByteCache {
     ///
     /// # Errors
     ///
-    /// [`OutOfMemory`] if the look-up is refused memory; then `make` isn't called. Also if the
-    /// insert is refused memory; then the value is dropped.
+    /// [`OutOfMemory`] if memory for the found value's copy is refused; then `make` isn't called.
+    /// Also if the insert is refused memory; then the value is dropped.
     pub fn get_or_insert_with(
         &mut self,
         key: impl AsRef<[u8]>,
@@ -345,7 +342,7 @@ impl ByteCache {
     ///
     /// # Errors
     ///
-    /// [`OutOfMemory`] if memory for the key or for the value is refused. Then the entry stays.
+    /// [`OutOfMemory`] if memory for the value is refused. Then the entry stays.
     pub fn remove(&mut self, key: impl AsRef<[u8]>) -> Result<Option<Vec<u8>>, OutOfMemory> {
         self.remove_at(key, self.now())
     }
@@ -366,26 +363,15 @@ impl ByteCache {
         filled(Vec::new(), |value| self.handle.remove(key, moment, value))
     }
 
-    /// Removes the entry of the key, if there is one, without returning its value.
-    ///
-    /// # Errors
-    ///
-    /// [`OutOfMemory`] if memory for the key is refused. Then the entry stays.
-    pub fn invalidate(&mut self, key: impl AsRef<[u8]>) -> Result<(), OutOfMemory> {
-        self.invalidate_at(key, self.now())
+    /// Removes the entry of the key, if there is one, without returning its value. It is never
+    /// refused memory.
+    pub fn invalidate(&mut self, key: impl AsRef<[u8]>) {
+        self.invalidate_at(key, self.now());
     }
 
     /// Removes the entry of the key as [`invalidate`](Self::invalidate) does, at the moment `now`.
-    ///
-    /// # Errors
-    ///
-    /// Those of [`invalidate`](Self::invalidate).
-    pub fn invalidate_at(
-        &mut self,
-        key: impl AsRef<[u8]>,
-        now: Duration,
-    ) -> Result<(), OutOfMemory> {
-        self.handle.invalidate(key.as_ref(), nanoseconds(now))
+    pub fn invalidate_at(&mut self, key: impl AsRef<[u8]>, now: Duration) {
+        self.handle.invalidate(key.as_ref(), nanoseconds(now));
     }
 
     /// Removes all entries, in time linear in their number.
@@ -504,7 +490,7 @@ impl ByteCache {
 
     /// Makes a get, and returns the value in a new vector.
     fn found(&mut self, key: &[u8], moment: u64) -> Result<Option<Vec<u8>>, OutOfMemory> {
-        match self.handle.get(key, moment, &mut self.short)? {
+        match self.handle.get(key, moment, &mut self.short) {
             Look::Copied => Ok(Some(copy_of(&self.short)?)),
             Look::Absent => Ok(None),
             // The get was counted already, so a peek fetches the value.
@@ -521,7 +507,7 @@ impl ByteCache {
         buffer: &mut Vec<u8>,
         moment: u64,
     ) -> Result<bool, OutOfMemory> {
-        match self.handle.get(key, moment, buffer)? {
+        match self.handle.get(key, moment, buffer) {
             Look::Copied => Ok(true),
             Look::Absent => Ok(false),
             // As in `found`.
@@ -645,7 +631,7 @@ fn copy_of(bytes: &[u8]) -> Result<Vec<u8>, OutOfMemory> {
 /// Makes a look-up, and repeats it if the vector is too short for the value.
 fn filled(
     mut value: Vec<u8>,
-    look: impl Fn(&mut Vec<u8>) -> Result<Look, OutOfMemory>,
+    look: impl Fn(&mut Vec<u8>) -> Look,
 ) -> Result<Option<Vec<u8>>, OutOfMemory> {
     Ok(fill(&mut value, look)?.then_some(value))
 }
@@ -653,10 +639,10 @@ fn filled(
 /// Makes a look-up as `filled` does, into a buffer. Returns `true` if it finds a value.
 fn fill(
     buffer: &mut Vec<u8>,
-    look: impl Fn(&mut Vec<u8>) -> Result<Look, OutOfMemory>,
+    look: impl Fn(&mut Vec<u8>) -> Look,
 ) -> Result<bool, OutOfMemory> {
     loop {
-        match look(buffer)? {
+        match look(buffer) {
             Look::Copied => return Ok(true),
             Look::Absent => return Ok(false),
             Look::TooLong(length) => buffer.try_reserve_exact(length)?,

@@ -465,43 +465,22 @@ impl Handle<Bytes> {
     }
 
     /// Looks up the key, which counts as an access.
-    pub(crate) fn get(
-        &self,
-        key: &[u8],
-        now: u64,
-        buffer: &mut Vec<u8>,
-    ) -> Result<Look, OutOfMemory> {
+    pub(crate) fn get(&self, key: &[u8], now: u64, buffer: &mut Vec<u8>) -> Look {
         self.look_up(mini_moka_get, key, now, buffer)
     }
 
     /// Looks up the key, which doesn't count as an access.
-    pub(crate) fn peek(
-        &self,
-        key: &[u8],
-        now: u64,
-        buffer: &mut Vec<u8>,
-    ) -> Result<Look, OutOfMemory> {
+    pub(crate) fn peek(&self, key: &[u8], now: u64, buffer: &mut Vec<u8>) -> Look {
         self.look_up(mini_moka_peek, key, now, buffer)
     }
 
     /// Removes the entry of the key. It stays if its value is too long for the buffer.
-    pub(crate) fn remove(
-        &self,
-        key: &[u8],
-        now: u64,
-        buffer: &mut Vec<u8>,
-    ) -> Result<Look, OutOfMemory> {
+    pub(crate) fn remove(&self, key: &[u8], now: u64, buffer: &mut Vec<u8>) -> Look {
         self.look_up(mini_moka_remove, key, now, buffer)
     }
 
     /// Makes the call, and lets it write to the vector's whole capacity.
-    fn look_up(
-        &self,
-        call: LookUp,
-        key: &[u8],
-        now: u64,
-        buffer: &mut Vec<u8>,
-    ) -> Result<Look, OutOfMemory> {
+    fn look_up(&self, call: LookUp, key: &[u8], now: u64, buffer: &mut Vec<u8>) -> Look {
         buffer.clear();
         let mut length = 0;
         // SAFETY: `at` points to a handle that keeps the rules. The slice has the length that is
@@ -523,34 +502,27 @@ impl Handle<Bytes> {
                 // SAFETY: the library has written the first `length` bytes of the vector's
                 // capacity, and returns `DONE` only if the capacity has that many.
                 unsafe { buffer.set_len(length) };
-                Ok(Look::Copied)
+                Look::Copied
             }
-            ABSENT => Ok(Look::Absent),
-            TOO_SHORT => Ok(Look::TooLong(length)),
-            OUT_OF_MEMORY => Err(OutOfMemory),
+            ABSENT => Look::Absent,
+            TOO_SHORT => Look::TooLong(length),
             other => unexpected(other),
         }
     }
 
     /// Returns `true` if the key has an unexpired entry.
-    pub(crate) fn contains(&self, key: &[u8], now: u64) -> Result<bool, OutOfMemory> {
+    pub(crate) fn contains(&self, key: &[u8], now: u64) -> bool {
         // SAFETY: `at` points to a handle that keeps the rules. The slice has the length that is
         // passed, its pointer is never null, and the library only reads it.
-        let status = unsafe { mini_moka_contains(self.at(), key.as_ptr().cast(), key.len(), now) };
-        match status {
-            DONE => Ok(true),
-            ABSENT => Ok(false),
-            OUT_OF_MEMORY => Err(OutOfMemory),
-            other => unexpected(other),
-        }
+        is_there(unsafe { mini_moka_contains(self.at(), key.as_ptr().cast(), key.len(), now) })
     }
 
     /// Removes the entry of the key, if there is one.
-    pub(crate) fn invalidate(&self, key: &[u8], now: u64) -> Result<(), OutOfMemory> {
+    pub(crate) fn invalidate(&self, key: &[u8], now: u64) {
         // SAFETY: as in `contains`.
         let status =
             unsafe { mini_moka_invalidate(self.at(), key.as_ptr().cast(), key.len(), now) };
-        written(status)
+        expect_done(status);
     }
 
     /// Makes a step of the walk, and lets it write to the whole capacities of both vectors.

@@ -156,9 +156,9 @@ fn an_invalidation_reads_the_clock() {
     numbers.insert_at(7, 49, START).unwrap();
     shared.insert_at("key", "value", START).unwrap();
     sleep(NAP);
-    bytes.invalidate("key").unwrap();
-    numbers.invalidate(7).unwrap();
-    shared.invalidate("key").unwrap();
+    bytes.invalidate("key");
+    numbers.invalidate(7);
+    shared.invalidate("key");
     let cause = bytes.removed().next().unwrap().unwrap().cause;
     assert_eq!(cause, Cause::Expired);
     assert_eq!(numbers.removed().next().unwrap().cause, Cause::Expired);

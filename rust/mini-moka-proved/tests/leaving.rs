@@ -44,7 +44,7 @@ fn statistics_count_what_leaves_by_cause() {
         assert_eq!(cache.get(b"new"), None);
     }
     assert_eq!(cache.insert(b"new", b"value"), Ok(Inserted::Stored));
-    cache.invalidate(b"new").unwrap();
+    cache.invalidate(b"new");
     cache.insert(b"kept", b"value").unwrap();
     cache.clear();
     let expected = Statistics {
@@ -114,7 +114,7 @@ fn what_leaves_a_full_queue_is_counted_as_lost() {
             cause: Cause::Replaced,
         }
     );
-    cache.invalidate("a").unwrap();
+    cache.invalidate("a");
     assert_eq!(drained(&mut cache), ["a=2 Replaced", "a=4 Explicit"]);
     let mut without = ByteCache::builder().build().unwrap();
     without.insert("a", "1").unwrap();
@@ -162,9 +162,9 @@ fn an_insert_over_an_expired_value_is_no_update() {
 #[test]
 fn a_call_that_removes_an_expired_entry_tells_that_it_expired() {
     let mut cache = hidden();
-    cache.invalidate_at("old", 10 * SECOND).unwrap();
+    cache.invalidate_at("old", 10 * SECOND);
     assert_eq!(cache.remove_at("aged", 10 * SECOND), Ok(None));
-    cache.invalidate_at("live", 10 * SECOND).unwrap();
+    cache.invalidate_at("live", 10 * SECOND);
     let left = ["old=2 Expired", "aged=3 Expired", "live=1 Explicit"];
     assert_eq!(drained(&mut cache), left);
     let counts = cache.statistics();
@@ -192,7 +192,7 @@ fn an_expired_number_is_neither_updated_nor_removed() {
     let now = 10 * SECOND;
     cache.insert_at(2, 20, now).unwrap();
     assert_eq!(cache.get_or_insert_at(3, 30, now), Ok(30));
-    cache.invalidate_at(4, now).unwrap();
+    cache.invalidate_at(4, now);
     assert_eq!(cache.remove_at(5, now), Ok(None));
     cache.insert_at(1, 10, now).unwrap();
     let left: Vec<_> = cache.removed().map(|it| (it.value, it.cause)).collect();
@@ -214,7 +214,7 @@ fn what_was_drained_or_lost_is_what_left() {
             let (key, now) = ([(turn * turn % 97) as u8], turn * SECOND);
             cache.insert_at(key, key, now).unwrap();
             match turn % 5 {
-                0 => cache.invalidate_at([(turn % 97) as u8], now).unwrap(),
+                0 => cache.invalidate_at([(turn % 97) as u8], now),
                 1 => returned += cache.remove_at([9], now).unwrap().iter().count() as u64,
                 2 => drained += cache.removed().count() as u64,
                 _ => {}

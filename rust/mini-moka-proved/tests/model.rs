@@ -115,7 +115,7 @@ fn compare_a_call(random: &mut Random, cache: &mut ByteCache, model: &mut Model,
             assert_eq!(removed, model.remove(&key, nanoseconds));
         }
         _ => {
-            cache.invalidate_at(&key, now).unwrap();
+            cache.invalidate_at(&key, now);
             model.remove(&key, nanoseconds);
         }
     }

@@ -4,6 +4,7 @@ use mini_moka::common::time::Instant;
 use mini_moka::unsync::{Cache, Call};
 use moka_examples::calling::{is_found_after, minute_cache, take_out};
 use moka_examples::pages::Pages;
+use moka_examples::probes::{ServerRef, count_request, forget_server, role_of};
 use moka_examples::uses::{
     count_after_calls, counts_of_what_left, found_within_ten_seconds, half_of, least_recently_used,
     left_of_64, millis_after_noon, remember, square_of_seven, weight_in_bytes,
@@ -48,6 +49,40 @@ fn pages_found(alloc: Global, clock: &impl Clock) -> Result<[bool; 2], Error> {
 #[test]
 fn a_page_is_found_by_a_running_clock(rt: HostRuntime) -> Result<(), Fail> {
     assert_eq!(rt; pages_found(rt.alloc(), &rt)?, [true, false]);
+    Ok(())
+}
+
+// Requests to the same port of another host, and to another port of the same host, are counted apart.
+#[test]
+fn a_probe_finds_what_its_key_finds(rt: HostRuntime) -> Result<(), Fail> {
+    let (alloc, now) = (rt.alloc(), Instant::from_secs(0));
+    let mut requests = Cache::new(alloc, 100)?;
+    let (one, other) = (
+        ServerRef {
+            host: "one",
+            port: 80,
+        },
+        ServerRef {
+            host: "one",
+            port: 81,
+        },
+    );
+    let third = ServerRef {
+        host: "two",
+        port: 80,
+    };
+    let mut counts = [0; 5];
+    for (count, server) in counts.iter_mut().zip([one, one, other, third, one]) {
+        *count = count_request(alloc, &mut requests, server, now)?;
+    }
+    assert_eq!(rt; role_of(alloc, "alice")?, (Some(7), None));
+    assert_eq!(rt; counts, [1, 2, 1, 1, 3]);
+    let forgotten = (
+        forget_server(&mut requests, one, now),
+        forget_server(&mut requests, one, now),
+    );
+    assert_eq!(rt; forgotten, (Some(3), None));
+    assert_eq!(rt; requests.entry_count(), 2);
     Ok(())
 }
 

@@ -293,23 +293,16 @@ impl ByteCache {
         self.segment(key).remove_at(key, now)
     }
 
-    /// Removes the entry of the key, if there is one, without returning its value.
-    ///
-    /// # Errors
-    ///
-    /// Those of [`crate::ByteCache::invalidate`]. Then the entry stays.
-    pub fn invalidate(&self, key: impl AsRef<[u8]>) -> Result<(), OutOfMemory> {
-        self.invalidate_at(key, self.now())
+    /// Removes the entry of the key, if there is one, without returning its value. It is never
+    /// refused memory.
+    pub fn invalidate(&self, key: impl AsRef<[u8]>) {
+        self.invalidate_at(key, self.now());
     }
 
     /// Removes the entry of the key as [`invalidate`](Self::invalidate) does, at the moment `now`.
-    ///
-    /// # Errors
-    ///
-    /// Those of [`crate::ByteCache::invalidate`]. Then the entry stays.
-    pub fn invalidate_at(&self, key: impl AsRef<[u8]>, now: Duration) -> Result<(), OutOfMemory> {
+    pub fn invalidate_at(&self, key: impl AsRef<[u8]>, now: Duration) {
         let key = key.as_ref();
-        self.segment(key).invalidate_at(key, now)
+        self.segment(key).invalidate_at(key, now);
     }
 
     /// Removes all entries, one segment after another.
@@ -362,7 +355,7 @@ impl ByteCache {
     ///
     /// let cache = ByteCache::builder().max_capacity(1000).removed_room(100).build()?;
     /// cache.insert("alice", "admin")?;
-    /// cache.invalidate("alice")?;
+    /// cache.invalidate("alice");
     /// let removed = cache.removed().next().transpose()?.unwrap();
     /// assert_eq!(removed.value, b"admin");
     /// # Ok::<(), Box<dyn std::error::Error>>(())

@@ -7,7 +7,7 @@ use Rattle.mini_moka_c.specs.declared.inserted.Inserted.TheVariants.{Stored}
 use Rattle.mini_moka_c.proofs.InsertLemmas.{bytes_answered}
 use Rattle.mini_moka_c.proofs.QueueLemmas.{insert_queued}
 use Rattle.mini_moka_c.proofs.StatisticsLemmas.{insert_counted}
-use Rattle.mini_moka_c.proofs.cache.ByteCache.insert.Goals as goal
+use Rattle.mini_moka_c.proofs.cache.ByteCache.insert_hashed.Goals as goal
 
 pub returns-clause-answer : goal.returns-clause-answer
 returns-clause-answer c =
@@ -18,18 +18,16 @@ returns-clause-answer c =
     let told : TellsInsert hears_leaving byte_keys old.cache c.args.now c.args.key.now c.args.value.now new.self before new.listener = search rules in
     bytes_answered old.cache new.self c.args.key.now c.args.value.now c.args.now before new.listener refl step told
 
-pub returns-clause-counts : goal.returns-clause-counts
-returns-clause-counts c =
+pub returns-clause-step : goal.returns-clause-step
+returns-clause-step c =
     let old = c.args.self.now in
     let new = c.insert_notifying.new in
     let before = record old.leaving { inserted = Stored } in
     let told : TellsInsert hears_leaving byte_keys old.cache c.args.now c.args.key.now c.args.value.now new.self before new.listener = search rules in
-    c.count_insert.ensures ∙ insert_counted byte_keys old.cache c.args.now before new.listener c.args.key.now c.args.value.now new.self told
-
-pub returns-clause-removed : goal.returns-clause-removed
-returns-clause-removed c =
-    let old = c.args.self.now in
-    let new = c.insert_notifying.new in
-    let before = record old.leaving { inserted = Stored } in
-    let told : TellsInsert hears_leaving byte_keys old.cache c.args.now c.args.key.now c.args.value.now new.self before new.listener = search rules in
-    insert_queued byte_keys old.cache c.args.now before new.listener c.args.key.now c.args.value.now new.self told
+    record {
+      step = search rules;
+      counts =
+          c.count_insert.ensures ∙ insert_counted byte_keys old.cache c.args.now before new.listener c.args.key.now c.args.value.now new.self told;
+      removed = insert_queued byte_keys old.cache c.args.now before new.listener c.args.key.now c.args.value.now new.self told;
+      walk = search rules;
+    }
