@@ -140,7 +140,7 @@ pub extern "C" fn mini_moka_get_or_insert(
     match handle.bytes() {
         Ok(bytes) => {
             let now = Instant::from_nanos(now);
-            let hash = bytes.cache.hash_of(Bytes::of(key));
+            let hash = bytes.cache.hash_of(Bytes { bytes: key });
             let found = bytes.get_hashed(key, hash, now, buffer);
             if found.is_some() {
                 return tell(found, buffer.len(), length);

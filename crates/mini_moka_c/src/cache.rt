@@ -86,7 +86,7 @@ impl ByteCache {
         ensures refused { OnErr result (IsBytesRefusal self.old self.new) }
         ensures error { IfErr result (λ error. error ≡ InsertError.OutOfMemory) }
     {
-        let hash = self.cache.hash_of(Bytes::of(key));
+        let hash = self.cache.hash_of(Bytes { bytes: key });
         self.insert_hashed(alloc, key, hash, value, now)
     }
 
@@ -126,7 +126,7 @@ impl ByteCache {
         ensures copied { buffer.new ≡ copied_to buffer.old (found_by_get byte_keys self.old.cache key.now now) }
         ensures step { IsBytesGet key.now now self.old self.new }
     {
-        let hash = self.cache.hash_of(Bytes::of(key));
+        let hash = self.cache.hash_of(Bytes { bytes: key });
         self.get_hashed(key, hash, now, buffer)
     }
 
@@ -146,7 +146,7 @@ impl ByteCache {
         self.walk = Walk::Ended;
         let value = self
             .cache
-            .get_notifying(Bytes::of(key), hash, now, &mut self.leaving);
+            .get_notifying(Bytes { bytes: key }, hash, now, &mut self.leaving);
         let found = copied(value, buffer);
         self.leaving.statistics.count_get(found.is_some());
         found
@@ -157,7 +157,7 @@ impl ByteCache {
         ensures value { result ≡ option_map length (found_by_peek byte_keys self.now.cache key.now now) }
         ensures copied { buffer.new ≡ copied_to buffer.old (found_by_peek byte_keys self.now.cache key.now now) }
     {
-        copied(self.cache.peek_by(Bytes::of(key), now), buffer)
+        copied(self.cache.peek_by(Bytes { bytes: key }, now), buffer)
     }
 
     /// Returns `true` if the key has an unexpired entry, as `Cache::contains_key` does.
@@ -169,7 +169,7 @@ impl ByteCache {
         ensures walk { self.new.walk ≡ Ended }
     {
         self.walk = Walk::Ended;
-        let key = Bytes::of(key);
+        let key = Bytes { bytes: key };
         let hash = self.cache.hash_of(key);
         self.cache
             .contains_notifying(key, hash, now, &mut self.leaving)
@@ -187,7 +187,7 @@ impl ByteCache {
             (is_longer (found_by_peek byte_keys self.old.cache key.now now) buffer.old) key.now self.old.leaving.removed self.new.leaving.removed }
     {
         self.walk = Walk::Ended;
-        let key = Bytes::of(key);
+        let key = Bytes { bytes: key };
         let hash = self.cache.hash_of(key);
         if let Some(value) = self.cache.peek_hashed(key, hash, now) {
             let length = value.as_slice().len();
@@ -210,7 +210,7 @@ impl ByteCache {
         ensures removed { TellsInvalidate queues byte_keys self.old.cache now key.now self.old.leaving.removed self.new.leaving.removed }
     {
         self.walk = Walk::Ended;
-        let key = Bytes::of(key);
+        let key = Bytes { bytes: key };
         let hash = self.cache.hash_of(key);
         self.cache
             .invalidate_notifying(key, hash, now, &mut self.leaving);

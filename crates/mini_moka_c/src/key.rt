@@ -2,7 +2,7 @@
 ghost use Rattle.std.specs.Prelude.{◌≡◌, ◌<◌, [], ◌∷◌, length, nat_eq, IfOk, OnErr, OnOk};
 ghost use Rattle.std.specs.Cmp.{partial_equiv_from_equiv};
 ghost use Rattle.std.specs.Cmp.Lexicographic.{nat_list_eq_equiv, pointwise};
-ghost use Rattle.std.specs.Cmp.Rules.{hashing};
+ghost use Rattle.std.specs.Cmp.Rules.{comparing, hashing};
 ghost use Rattle.std.proofs.Common.{rules};
 
 use moka_common::error::OutOfMemory;
@@ -103,42 +103,15 @@ impl Hash for Key {
 }
 
 /// The bytes of a key that is looked for, which stand for it without a copy.
-#[derive(Clone, Copy)]
+#[derive(Clone, Copy, PartialEq, Eq)]
 pub struct Bytes<'a> {
-    bytes: &'a [u8],
-}
-
-impl<'a> Model for Bytes<'a> {
-    ghost use Rattle.std.specs.Prelude.{List, ℕ};
-
-    ghost Value = { List ℕ };
-
-    ghost view = { λ bytes. bytes.bytes.now };
-}
-
-impl<'a> Bytes<'a> {
-    /// Takes these bytes.
-    pub fn of(bytes: &'a [u8]) -> Bytes<'a>
-        ensures { result ≡ bytes.now }
-    {
-        Bytes { bytes }
-    }
-}
-
-impl<'a> PartialEq for Bytes<'a> {
-    ghost eq = { pointwise nat_eq };
-
-    ghost laws = { partial_equiv_from_equiv nat_list_eq_equiv };
-
-    fn eq(&self, other: &Bytes<'a>) -> bool {
-        self.bytes == other.bytes
-    }
+    pub bytes: &'a [u8],
 }
 
 impl<'a> Hash for Bytes<'a> {
-    ghost hash_input = { λ bytes. bytes ∷ [] };
+    ghost hash_input = { λ probe. probe.bytes.now ∷ [] };
 
-    ghost respects_eq = { Prim.search (hashing, rules) };
+    ghost respects_eq = { Prim.search (comparing, hashing, rules) };
 
     fn hash<H: Hasher>(&self, state: &mut H) {
         state.write(self.bytes);
@@ -146,11 +119,11 @@ impl<'a> Hash for Bytes<'a> {
 }
 
 impl<'a> Lookup<Key> for Bytes<'a> {
-    ghost stands_for = { pointwise nat_eq };
+    ghost stands_for = { λ probe key. pointwise nat_eq probe.bytes.now key };
 
-    ghost hashes_alike = { Prim.search (hashing, rules) };
+    ghost hashes_alike = { Prim.search (comparing, hashing, rules) };
 
-    ghost stands_for_equals = { nat_list_eq_equiv.congr };
+    ghost stands_for_equals = { λ probe x y. nat_list_eq_equiv.congr probe.bytes.now x y };
 
     fn stands_for(&self, key: &Key) -> bool {
         self.bytes == key.as_slice()
