@@ -74,8 +74,8 @@ use std::marker::Model;
 ///
 /// Which keys stay depends on how large the window is. `adaptive()` lets the cache choose: the window grows while keys come back that were rejected, and
 /// shrinks while keys come back that the main part gave up for others. It is the first choice unless replies must be those of a fixed window. A hit costs what
-/// it costs with `protected_share(80)`, and two tables take half a byte an entry. Two settings of the builder fix the shares instead, or set where an
-/// adaptive cache begins:
+/// it costs with `protected_share(80)`, and two tables take half a byte an entry. In a small cache with a weigher it may find fewer, 9 of 100 on one trace,
+/// since the window's limit moves by whole entries. Two settings of the builder fix the shares instead, or set where an adaptive cache begins:
 ///
 /// - `protected_share(80)` makes the main part a segmented LRU, as in Caffeine: an entry that is used there again is protected, and leaves after those that
 ///   aren't. It finds more keys if some stay popular, also between scans.

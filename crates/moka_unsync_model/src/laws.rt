@@ -5,8 +5,9 @@ ghost use Rattle.moka_unsync_model.specs.declared.constants.TheConstants.{EVICTI
 ghost use Rattle.moka_unsync_model.specs.Shares.{default_shares, limits_of};
 ghost use Rattle.moka_unsync_model.specs.Laws.{EntriesAreOwn, GetsOrInsertsAreRuns, HitsAreProtected, InvalidationsKeepCounts, KeysStandOnce};
 ghost use Rattle.moka_unsync_model.specs.Laws.{FixedSharesStay, InsertsDoLittle, LooksChangeNothing, TurnsAreSmall, WindowStaysWithinBounds};
-ghost use Rattle.moka_unsync_model.specs.Laws.{NeverRefuses, OnlyUpdatesOutgrowLimit, PartsStandInOrder, ProbesActAsKeys, ProtectedGivesWayLast, ProtectedStaysEmpty};
-ghost use Rattle.moka_unsync_model.specs.Laws.{ProtectedStaysWithinShare, StaysWithinLimit, WindowStandsBehind, WindowStaysEmpty, WritesFollowEntries};
+ghost use Rattle.moka_unsync_model.specs.Laws.{NeverRefuses, OnlyUpdatesOutgrowLimit, PartsStandInOrder, ProbesActAsKeys, ProtectedGivesWayLast};
+ghost use Rattle.moka_unsync_model.specs.Laws.{ProtectedStaysEmpty, ProtectedStaysWithinShare, StaysWithinLimit, WindowStandsBehind, WindowStaysEmpty};
+ghost use Rattle.moka_unsync_model.specs.Laws.{WritesFollowEntries};
 ghost use Rattle.moka_unsync_model.specs.PlainMap.{RunsAsMap, StepsAsMap};
 
 use moka_common::lookup::Lookup;

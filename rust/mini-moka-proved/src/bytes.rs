@@ -637,10 +637,7 @@ fn filled(
 }
 
 /// Makes a look-up as `filled` does, into a buffer. Returns `true` if it finds a value.
-fn fill(
-    buffer: &mut Vec<u8>,
-    look: impl Fn(&mut Vec<u8>) -> Look,
-) -> Result<bool, OutOfMemory> {
+fn fill(buffer: &mut Vec<u8>, look: impl Fn(&mut Vec<u8>) -> Look) -> Result<bool, OutOfMemory> {
     loop {
         match look(buffer) {
             Look::Copied => return Ok(true),

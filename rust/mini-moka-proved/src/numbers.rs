@@ -207,23 +207,13 @@ impl NumberCache {
     }
 
     /// Removes the entry of the key, if there is one, without returning its value.
-    ///
-    /// # Errors
-    ///
-    /// None: a removal allocates nothing. It returns a `Result` as
-    /// [`ByteCache::invalidate`](crate::ByteCache::invalidate) does.
-    pub fn invalidate(&mut self, key: u64) -> Result<(), OutOfMemory> {
-        self.invalidate_at(key, self.now())
+    pub fn invalidate(&mut self, key: u64) {
+        self.invalidate_at(key, self.now());
     }
 
     /// Removes the entry of the key as [`invalidate`](Self::invalidate) does, at the moment `now`.
-    ///
-    /// # Errors
-    ///
-    /// None: a removal allocates nothing.
-    pub fn invalidate_at(&mut self, key: u64, now: Duration) -> Result<(), OutOfMemory> {
+    pub fn invalidate_at(&mut self, key: u64, now: Duration) {
         self.handle.invalidate(key, nanoseconds(now));
-        Ok(())
     }
 
     /// Removes all entries, in time linear in their number.
@@ -267,7 +257,7 @@ impl NumberCache {
     ///
     /// let mut squares = NumberCache::builder().removed_room(10).build()?;
     /// squares.insert(7, 49)?;
-    /// squares.invalidate(7)?;
+    /// squares.invalidate(7);
     /// let removed = squares.removed().next().unwrap();
     /// assert_eq!((removed.key, removed.value, removed.cause), (7, 49, Cause::Explicit));
     /// # Ok::<(), Box<dyn std::error::Error>>(())

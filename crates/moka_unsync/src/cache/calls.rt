@@ -142,7 +142,8 @@ impl<
         self.invalidate_notifying(probe, hash, now, &mut NoListener);
     }
 
-    /// Removes the entry of the key, as `invalidate_by` does, by the probe's hash. The listener gets what leaves, the entry of the key as removed or as expired.
+    /// Removes the entry of the key, as `invalidate_by` does, by the probe's hash. The listener gets what leaves, the entry of the key as removed or as
+    /// expired.
     pub fn invalidate_notifying<Q: Lookup<K>, L: Listener<K, V>>(
         &mut self,
         probe: Q,

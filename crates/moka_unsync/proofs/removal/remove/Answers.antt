@@ -18,7 +18,8 @@ returns-clause-value g c =
 
 pub returns-clause-step : goal.returns-clause-step
 returns-clause-step g c =
-    except-found g.K.PartialEq.eq (g.Q.Lookup.stands_for c.args.probe) (g.met.Q.Lookup.stands_for_equals c.args.probe) c.args.store.now c.take.new.self c.in_ok-id.id
+    except-found g.K.PartialEq.eq (g.Q.Lookup.stands_for c.args.probe) (g.met.Q.Lookup.stands_for_equals c.args.probe) c.args.store.now c.take.new.self
+    c.in_ok-id.id
     (c.in_ok-id.ensures {u = tt}).found c.take.ensures.step
 
 pub returns-in_err-id-clause-left : goal.returns-in_err-id-clause-left

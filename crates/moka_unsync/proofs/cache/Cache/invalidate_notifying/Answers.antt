@@ -6,7 +6,8 @@ use Rattle.moka_unsync.proofs.cache.Cache.invalidate_notifying.Goals as goal
 pub remove_notifying-requires : goal.remove_notifying-requires
 remove_notifying-requires g c =
     has_hash (record { eq = g.K.PartialEq.eq; hash_input = g.K.Hash.hash_input }) g.S.BuildHasher g.S.Hasher.Hasher
-    (g.Q.Lookup.stands_for c.args.probe) (g.Q.Hash.hash_input c.args.probe) (g.met.Q.Lookup.hashes_alike c.args.probe) (IsCached-cleanup c.args.now c.self.invariant c.clean_up.ensures.step c.clean_up.ensures.kept)
+    (g.Q.Lookup.stands_for c.args.probe) (g.Q.Hash.hash_input c.args.probe) (g.met.Q.Lookup.hashes_alike c.args.probe)
+    (IsCached-cleanup c.args.now c.self.invariant c.clean_up.ensures.step c.clean_up.ensures.kept)
     (subst (λ cache. c.args.hash ≡ hash_by g.S.BuildHasher g.S.Hasher.Hasher cache.settings.hash_state (g.Q.Hash.hash_input c.args.probe))
     (sym c.self.view_is) c.requires)
 
