@@ -95,7 +95,7 @@ impl Pair {
             10 => assert_eq!(typed.peek(&key).copied(), numbers.peek(key)),
             11 => assert_eq!(typed.contains_key(&key), numbers.contains_key(key)),
             12 => {
-                numbers.invalidate(key).unwrap();
+                numbers.invalidate(key);
                 typed.invalidate(&key);
             }
             _ => {
