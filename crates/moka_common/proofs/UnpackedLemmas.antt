@@ -164,7 +164,7 @@ module _ (groups new : List ℕ) (sample size hash : ℕ) (grew : Bool) (made : 
 -- ---- a new table
 
 -- a table is not longer than the longest
-len_within : (cap : ℕ) → table_len_for cap ≤ MAX_TABLE_LEN
+pub len_within : (cap : ℕ) → table_len_for cap ≤ MAX_TABLE_LEN
 len_within cap = next_power_within (min cap MAX_TABLE_LEN) 30 (omega arith) (omega arith)
 
 -- nor empty

@@ -2,18 +2,20 @@
 ghost use Rattle.std.specs.Prelude.{◌≡◌, ◌<◌, ◌≤◌, IsOk, OnOk, OnErr};
 ghost use Rattle.moka_common.specs.Sketch.{IsSketch, after_increment, estimate, index_of};
 ghost use Rattle.moka_common.specs.SketchCapacity.{after_ensure_capacity, sample_size_for, sketch_capacity, table_len, table_len_for};
-ghost use Rattle.moka_common.specs.declared.constants.TheConstants.{DEPTHS, MAX_FREQUENCY};
+ghost use Rattle.moka_common.specs.declared.constants.TheConstants.{DEPTHS, MAX_FREQUENCY, MAX_TABLE_LEN};
 
 use crate::constants::{
     GROUPS_PER_WORD, MAX_SAMPLE_SIZE, MAX_TABLE_LEN, MIN_SKETCH_CAPACITY, SAMPLE_FACTOR,
 };
 use crate::error::OutOfMemory;
+use spare::Spare;
 use std::alloc::{Allocator, Global};
 use std::marker::Model;
 
 pub(crate) mod aging;
 mod cells;
 pub mod enabling;
+mod spare;
 
 /// Counters for hashes. It has no table, and counts nothing, until `ensure_capacity` makes one.
 ///
@@ -29,6 +31,8 @@ pub struct FrequencySketch<A: Allocator + Clone + Drop = Global> {
     table: Vec<u16, A>,
     sample_size: u32,
     size: u32,
+    /// What `reserve` has allocated for the next table.
+    spare: Spare<A>,
 }
 
 impl<A: Allocator + Clone + Drop> Model for FrequencySketch<A> {
@@ -52,6 +56,7 @@ impl<A: Allocator + Clone + Drop> FrequencySketch<A> {
             table: Vec::new(alloc),
             sample_size: 0,
             size: 0,
+            spare: Spare::none(),
         }
     }
 
@@ -69,10 +74,19 @@ impl<A: Allocator + Clone + Drop> FrequencySketch<A> {
 
         // The new table comes first: a refusal leaves the old one.
         let alloc = self.table.allocator().clone()?;
-        self.table = vec![in alloc; 0; GROUPS_PER_WORD * len]?;
+        self.table = self.spare.take_or_allocate(alloc, GROUPS_PER_WORD * len)?;
         self.sample_size = wanted_sample_size(cap);
         self.size = 0;
         Ok(())
+    }
+
+    /// Allocates the counters of a table for `cap` entries. The next `ensure_capacity` of as many allocates nothing, and takes constant time.
+    pub fn reserve(&mut self, cap: u32) -> Result<(), OutOfMemory>
+        ensures { self.new ≡ self.old }
+    {
+        let alloc = self.table.allocator().clone()?;
+        self.spare
+            .allocate(alloc, GROUPS_PER_WORD * wanted_len(cap))
     }
 
     /// Estimates how often the hash was counted recently, from 0 to 15. It reads four words, with a multiplication each.
@@ -122,7 +136,8 @@ impl<A: Allocator + Clone + Drop> FrequencySketch<A> {
 
 /// Returns the length of the table for a cache of this capacity, in words.
 fn wanted_len(cap: u32) -> usize
-    ensures { result ≡ table_len_for cap }
+    ensures value { result ≡ table_len_for cap }
+    ensures within { result ≤ MAX_TABLE_LEN }
 {
     (cap.min(MAX_TABLE_LEN) as usize).next_power_of_two()
 }

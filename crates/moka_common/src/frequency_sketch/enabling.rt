@@ -3,6 +3,7 @@ ghost use Rattle.std.specs.Prelude.{◌≡◌, ◌-◌, ◌^◌, Bool, min};
 ghost use Rattle.moka_common.specs.Enabling.{after_enabling, expected_entries};
 
 use super::{FrequencySketch, sketch_capacity};
+use crate::error::OutOfMemory;
 use std::alloc::Allocator;
 
 /// The contents of a cache when it asks for its table.
@@ -25,6 +26,24 @@ impl<A: Allocator + Clone + Drop> FrequencySketch<A> {
         };
         if self.table_len() == 0 && load.weight >= u128::from(limit / 2) {
             let _ = self.ensure_capacity(sketch_capacity(expected_entries(limit, load)));
+        }
+    }
+}
+
+impl<A: Allocator + Clone + Drop> FrequencySketch<A> {
+    /// Reserves the table that `enable_if_half_full` makes for this limit, if so many entries fill half of it, each with a weight of 1.
+    pub fn reserve_if_half_full(
+        &mut self,
+        max_capacity: Option<u64>,
+        entries: usize,
+    ) -> Result<(), OutOfMemory>
+        ensures { self.new ≡ self.old }
+    {
+        match max_capacity {
+            Some(limit) if 0 < entries && limit / 2 <= entries as u64 => {
+                self.reserve(sketch_capacity(limit))
+            }
+            _ => Ok(()),
         }
     }
 }
