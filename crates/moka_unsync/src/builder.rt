@@ -39,7 +39,7 @@ use std::time::Duration;
 /// ```
 ///
 /// A builder takes no memory. `build` and `build_with_hasher` refuse a duration of more than 1000 years, the time to live first, then a share above 100%,
-/// the window's first, and then want of memory for the room of `initial_capacity`.
+/// the window's first, and then want of memory for what `initial_capacity` reserves.
 #[derive(Drop)]
 pub struct CacheBuilder<K, V, W: Drop = UnitWeight, A: Allocator + Clone + Drop = Global> {
     alloc: A,
@@ -104,7 +104,8 @@ impl<K, V, W: Drop, A: Allocator + Clone + Drop> CacheBuilder<K, V, W, A> {
     }
 
     /// Sets the number of entries for which memory is reserved at the start, with one more place for the insert into a full cache. While the cache has at most
-    /// that many entries it doesn't grow, and no insert is refused. So without a weigher a cache with its limit as initial capacity never grows.
+    /// that many entries it doesn't grow, and no insert is refused. So without a weigher a cache with its limit as initial capacity never grows. From half of
+    /// the limit on the counters of popularity are allocated at the start too, which are used once the cache is half full.
     pub fn initial_capacity(self, initial_capacity: usize) -> Self
         ensures { result ≡ record self { initial_capacity = initial_capacity } }
     {

@@ -37,7 +37,7 @@ use moka_common::weigh::UnitWeight;
 use moka_store::store::Store;
 use moka_unsync_model::shares::{PartLimits, Shares};
 pub(crate) use parts::Parts;
-use parts::{empty_store, max_entries, new_memory, reserved};
+use parts::{empty_store, max_entries, new_memory, new_sketch, reserved};
 use std::alloc::{Allocator, Global};
 use std::hash::{BuildHasher, Hash};
 use std::marker::Model;
@@ -233,6 +233,12 @@ impl<
             reserved(parts.initial_capacity)?,
         )?;
         let memory = new_memory(&alloc, parts.shares)?;
+        let sketch = new_sketch(
+            alloc,
+            parts.policy,
+            parts.is_weighed,
+            parts.initial_capacity,
+        )?;
         Ok(Cache {
             hash_state: parts.hash_state,
             bounds: Bounds::new(parts.policy),
@@ -242,7 +248,7 @@ impl<
             is_weighed: parts.is_weighed,
             weigher: parts.weigher,
             store,
-            sketch: FrequencySketch::default(alloc),
+            sketch,
             memory,
         })
     }

@@ -1,5 +1,5 @@
 // The parts of a new cache.
-ghost use Rattle.std.specs.Prelude.{◌≡◌, ◌≤◌, [], IfOk};
+ghost use Rattle.std.specs.Prelude.{◌≡◌, ◌≤◌, [], None, IfOk};
 ghost use Rattle.moka_common.specs.Settings.{keeps_writes};
 ghost use Rattle.moka_unsync.specs.Builder.{reserved};
 ghost use Rattle.moka_unsync.specs.Cached.{most_entries};
@@ -7,6 +7,7 @@ ghost use Rattle.moka_unsync_model.specs.Memory.{new_memory};
 
 use crate::memory::Memory;
 use moka_common::error::OutOfMemory;
+use moka_common::frequency_sketch::FrequencySketch;
 use moka_common::policy::Policy;
 use moka_store::store::Store;
 use moka_unsync_model::shares::Shares;
@@ -34,6 +35,22 @@ pub(crate) fn new_memory<A: Allocator + Clone + Drop>(
         return Ok(None);
     }
     Ok(Some(Memory::new(alloc.clone()?)?))
+}
+
+/// Makes a sketch without a table. If the initial capacity is at least half of a limit of entries, the table is allocated here, and no call pauses for it.
+pub(crate) fn new_sketch<A: Allocator + Clone + Drop>(
+    alloc: A,
+    policy: Policy,
+    is_weighed: bool,
+    initial_capacity: usize,
+) -> Result<FrequencySketch<A>, OutOfMemory>
+    ensures { IfOk result (λ sketch. sketch ≡ None) }
+{
+    let mut sketch = FrequencySketch::default(alloc);
+    if !is_weighed {
+        sketch.reserve_if_half_full(policy.max_capacity(), initial_capacity)?;
+    }
+    Ok(sketch)
 }
 
 /// Returns the number of entries for which a new store reserves memory. It is one more than the initial capacity, since an insert into a full cache stores
