@@ -118,13 +118,12 @@ fn play(heap: &RefusingHeap<Global>, stayed: &Cell<u64>) -> Result<(), &'static 
     Ok(())
 }
 
-// Of three requests of the build, the sketch's table and the two tables of tags, each is refused alone, and then with all that follow. The sketch's is asked
-// for again.
+// Of four requests of the build, with that for the sketch's table, and of the two tables of tags each is refused alone, and then with all that follow.
 #[test]
 fn a_refused_table_leaves_the_window_as_it_is(rt: HostRuntime) -> Result<(), Fail> {
     let stayed = Cell::new(0u64);
     let plays = for_each_refusal(rt.alloc(), rt.alloc(), BOUND, |heap| play(heap, &stayed))?;
-    assert_eq!(rt; (plays, stayed.get()), (12, 5));
+    assert_eq!(rt; (plays, stayed.get()), (12, 4));
     Ok(())
 }
 

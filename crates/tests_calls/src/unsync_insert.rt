@@ -186,6 +186,30 @@ fn room_from_the_start_is_for_as_many_entries(rt: HostRuntime) -> Result<(), Fai
     Ok(())
 }
 
+/// Returns how often a cache with a limit of ten asks for memory when it is built, and from then until it is full.
+fn requests_of(heap: &Heap, room: usize) -> Option<(u64, u64)> {
+    let before = heap.asked();
+    let mut cache: Cache<u64, u64, FixedState, UnitWeight, _> = CacheBuilder::new(heap, 10)
+        .initial_capacity(room)
+        .build()
+        .ok()?;
+    let built = heap.asked();
+    for key in 0..10u64 {
+        cache.insert(key, 1, start()).ok()?;
+    }
+    let full = heap.asked();
+    Some((built.checked_sub(before)?, full.checked_sub(built)?))
+}
+
+// From half of the limit on the counters are allocated with the three blocks of the room. Else they are once the cache is half full. A growth takes three.
+#[test]
+fn a_cache_built_for_half_of_its_limit_has_its_counters(rt: HostRuntime) -> Result<(), Fail> {
+    let heap = RefusingHeap::new(rt.alloc(), rt.alloc(), Refusals::Never)?;
+    let requests = [10, 5, 4].map(|room| requests_of(&heap, room));
+    assert_eq!(rt; requests, [Some((4, 0)), Some((4, 3)), Some((3, 4))]);
+    Ok(())
+}
+
 /// Returns the bytes that a cache with a limit of a thousand holds once three thousand keys were inserted.
 fn held_when_full(heap: &Heap, room: usize) -> Option<u64> {
     let mut cache: Cache<u64, u64, FixedState, UnitWeight, _> = CacheBuilder::new(heap, 1000)
