@@ -97,7 +97,7 @@ const WAYS: [Way; 9] = [
 ];
 
 /// Plays of each way that meet a refusal: two for each request.
-const REFUSALS: [u64; 9] = [0, 6, 6, 86, 86, 86, 94, 74, 10];
+const REFUSALS: [u64; 9] = [0, 8, 8, 86, 86, 86, 94, 74, 10];
 
 #[test]
 fn each_request_of_a_build_is_refused(rt: HostRuntime) -> Result<(), Fail> {
