@@ -17,9 +17,9 @@
  *   mini_moka_invalidate first evicts up to 100 entries, in the order of a walk, until the others fit. An update heavier than the whole capacity is
  *   stored, so these calls evict most entries and the update: remove its key instead. Any other cache never exceeds its capacity.
  * - A cache has at most 2,000,000,000 entries; then an insert returns MINI_MOKA_OUT_OF_MEMORY. An entry weighs at most UINT32_MAX, even if it has more bytes.
- * - An insert that finds the cache's memory full doubles it and moves each entry, so a big cache pauses. A cache never grows if its initial_capacity is the
- *   maximum number of entries that it will have, also if an insert finds that many and evicts one. Values, and keys of more than 24 bytes, have memory of
- *   their own, which an insert of bytes allocates.
+ * - An insert that finds the cache's memory full doubles it and moves each entry, so a big cache pauses. A cache never grows or pauses if its
+ *   initial_capacity is the maximum number of entries that it will have, also if an insert finds that many and evicts one. Values, and keys of more than 24
+ *   bytes, have memory of their own, which an insert of bytes allocates.
  *
  * A program must keep these rules, which no proof checks:
  *
@@ -118,7 +118,7 @@ struct mini_moka_settings {
     uint64_t time_to_live;   /* nanoseconds that an entry lives after its last write */
     uint64_t time_to_idle;   /* nanoseconds that an entry lives after its last read or write */
     size_t initial_capacity; /* number of entries for which memory is reserved; up to it, an insert is refused memory only for its value, or for a key of
-                                more than 24 bytes */
+                                more than 24 bytes. From half of a capacity in entries on, the counters of popularity are allocated at the start too */
     uint64_t seed[2];        /* the key of the hash function: 16 secret bytes, if strangers choose the cache's keys */
     bool is_weighed;         /* true if an entry weighs the bytes of its key and value instead of 1 */
     size_t removed_room;     /* maximum number of removed entries that are queued for mini_moka_removed; 0 queues none */

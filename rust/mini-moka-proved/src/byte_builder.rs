@@ -69,7 +69,8 @@ impl ByteBuilder {
     ///
     /// An insert that finds the cache's memory full doubles it, which takes time linear in the
     /// number of entries. The memory never doubles if the cache never has more than `entries`
-    /// entries, also if an insert finds that many and evicts one.
+    /// entries, also if an insert finds that many and evicts one. From half of a capacity in
+    /// entries on, the counters of popularity are allocated at the start too.
     pub fn initial_capacity(mut self, entries: usize) -> ByteBuilder {
         self.limits.initial_capacity = entries;
         self
