@@ -27,7 +27,7 @@ pub struct Server {
     pub port: u16,
 }
 
-/// What a server is looked up by.
+/// Something by which a server is looked up.
 #[derive(Clone, Copy, PartialEq, Eq, Hash)]
 pub struct ServerRef<'a> {
     pub host: &'a str,

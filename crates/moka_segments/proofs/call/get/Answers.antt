@@ -1,6 +1,7 @@
 use Rattle.std.specs.Prelude.{option_copied, option_map}
-use Rattle.std.proofs.Common.{◌∙◌, ◌∷◌, [], ap, refl, subst, sym}
+use Rattle.std.proofs.Common.{◌≡◌, ◌∙◌, ◌∷◌, [], ap, refl, subst, sym}
 use Rattle.moka_common.specs.Keys.{Keys, keys_by}
+use Rattle.moka_unsync_model.specs.Lookup.{after_get, after_get_where}
 use Rattle.moka_unsync_model.specs.Step.{Found, Get}
 use Rattle.moka_segments.proofs.CallLemmas.{Called, Entered, call_of, enters, first_held, holds_lock, idle_again, its_hash, kept, makes}
 use Rattle.moka_segments.proofs.LawLemmas.{gets}
@@ -32,6 +33,14 @@ its_cache g c =
     enters (keys_of g) g.W.Weighing.weighs g.P.Rule.rules g.W.Weighing.ready c.args.shared.now.table.shared.key c.place_of-hash.result.1
     c.args.me.now.me c.lock.new.me.me c.slot_mut-cache.result.now c.lock.ensures.got c.requires.idle.3 c.slot_mut-cache.ensures.value
 
+-- the cache that was left
+its_step : (g : Over) (c : After-of-after g)
+    → c.get_notifying.follows.lender-at-none ≡ after_get (keys_of g) c.slot_mut-cache.result.now c.args.key.now c.args.now
+its_step g c =
+    c.get_notifying.follows.holds-at-none
+    ∙ ap (λ hash. after_get_where (keys_of g) c.slot_mut-cache.result.now (g.K.PartialEq.eq c.args.key.now) hash c.args.now)
+    (its_hash c.place_of-hash.result.0 c.args.key.now (its_cache g c) c.place_of-hash.ensures.hash)
+
 -- what the visit did, and how it is noted
 its_call : (g : Over) (c : After-of-after g) → Called (keys_of g) g.W.Weighing.weighs g.P.Rule.rules g.W.Weighing.ready
     c.args.shared.now.table.shared.key c.place_of-hash.result.1 c.args.me.now.me.0 c.lock.new.me.me c.slot_mut-cache.result.now
@@ -40,9 +49,9 @@ its_call : (g : Over) (c : After-of-after g) → Called (keys_of g) g.W.Weighing
     (call_of c.of-before.result.value (Get c.args.key.now c.args.now) (Found (option_map (λ s. s.value) c.looked-found.result.1)) c.of-after.result.value ∷ [])
 its_call g c = record {
   entered = its_cache g c;
-  leads = (refl, (ap Found c.get_notifying.ensures.value, c.get_notifying.follows.holds-at-none), refl);
+  leads = (refl, (ap Found c.get_notifying.ensures.value, its_step g c), refl);
   befit = ((c.place_of-hash.ensures.place, tt), (tt, tt));
-  can = subst (λ x. g.W.Weighing.ready x.weigher) (sym c.get_notifying.follows.holds-at-none) (its_cache g c).account.1;
+  can = subst (λ x. g.W.Weighing.ready x.weigher) (sym (its_step g c)) (its_cache g c).account.1;
   noted = λ j. call_of (c.of-before.ensures j) (Get c.args.key.now c.args.now) (Found (c.looked-found.ensures.seen j)) (c.of-after.ensures j) ∷ [];
 }
 
