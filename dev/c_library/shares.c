@@ -351,13 +351,14 @@ static void segments_adapt(void) {
 /* ---- refused memory */
 
 /*
- * The insert that makes the cache half full allocates the sketch's table and two tables of tags, and is done if memory for one is refused. Without the first,
- * the next insert asks again. Without one of the others, the cache never adapts.
+ * A cache that is opened for its capacity has its counters then. The insert that makes it half full allocates two tables of tags, and is done if memory for one
+ * is refused; then the cache never adapts.
  */
 static void refused_tables_are_no_error(void) {
-    for (int which = -1; which < 3; which++) {
+    for (int which = -1; which < 2; which++) {
         struct mini_moka cache = {0};
         struct mini_moka_u64_settings settings = adaptive_numbers(CAPACITY);
+        int asked = which < 0 ? 2 : which + 1;
         settings.initial_capacity = CAPACITY + 1;
         CHECK(mini_moka_u64_open(&cache, &settings) == MINI_MOKA_DONE);
         allocations = 0;
@@ -365,14 +366,38 @@ static void refused_tables_are_no_error(void) {
             CHECK(mini_moka_u64_insert(&cache, key, key, 0) == MINI_MOKA_DONE);
         CHECK(allocations == 0);
         refused = which;
-        CHECK(mini_moka_u64_insert(&cache, CAPACITY, 0, 0) == MINI_MOKA_DONE && allocations == (which < 0 ? 3 : which + 1));
+        CHECK(mini_moka_u64_insert(&cache, CAPACITY, 0, 0) == MINI_MOKA_DONE && allocations == asked);
         refused = -1;
-        CHECK(mini_moka_u64_insert(&cache, CAPACITY + 1, 0, 0) == MINI_MOKA_DONE && allocations == (which == 0 ? 4 : which < 0 ? 3 : which + 1));
+        CHECK(mini_moka_u64_insert(&cache, CAPACITY + 1, 0, 0) == MINI_MOKA_DONE && allocations == asked);
         insert_and_return(&cache, 2 * CAPACITY, 5 * CAPACITY, 40);
-        CHECK(which > 0 ? window_of(&cache) == 10 : window_of(&cache) >= 40);
-        CHECK(allocations == (which == 0 ? 4 : which < 0 ? 3 : which + 1) && number_of(mini_moka_count, &cache) == CAPACITY);
+        CHECK(which < 0 ? window_of(&cache) >= 40 : window_of(&cache) == 10);
+        CHECK(allocations == asked && number_of(mini_moka_count, &cache) == CAPACITY);
         CHECK(mini_moka_close(&cache) == MINI_MOKA_DONE);
     }
+}
+
+/* Returns the number of allocations that opening a cache takes. If one of them is refused, the handle stays closed. */
+static int allocations_to_open(size_t initial_capacity) {
+    struct mini_moka cache = {0};
+    struct mini_moka_u64_settings settings = adaptive_numbers(CAPACITY);
+    settings.initial_capacity = initial_capacity;
+    uint32_t status = MINI_MOKA_OUT_OF_MEMORY;
+    int which = -1;
+    while (status != MINI_MOKA_DONE) {
+        allocations = 0;
+        refused = ++which;
+        status = mini_moka_u64_open(&cache, &settings);
+        refused = -1;
+        CHECK(status == MINI_MOKA_DONE || (status == MINI_MOKA_OUT_OF_MEMORY && mini_moka_close(&cache) == MINI_MOKA_CLOSED));
+    }
+    CHECK(mini_moka_close(&cache) == MINI_MOKA_DONE);
+    return which;
+}
+
+/* The counters are allocated at the opening from half of the capacity on. */
+static void counters_are_allocated_with_half_of_the_capacity(void) {
+    int fewer = allocations_to_open(CAPACITY / 2 - 1);
+    CHECK(fewer > 0 && allocations_to_open(CAPACITY / 2) == fewer + 1 && allocations_to_open(CAPACITY) == fewer + 1);
 }
 
 int main(void) {
@@ -388,5 +413,6 @@ int main(void) {
     queues_of_adaptive_caches_lose_nothing();
     segments_adapt();
     refused_tables_are_no_error();
+    counters_are_allocated_with_half_of_the_capacity();
     return failures != 0;
 }
