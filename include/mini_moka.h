@@ -17,7 +17,7 @@
  *   mini_moka_invalidate first evicts up to 100 entries, in the order of a walk, until the others fit. An update heavier than the whole capacity is
  *   stored, so these calls evict most entries and the update: remove its key instead. Any other cache never exceeds its capacity.
  * - A cache has at most 2,000,000,000 entries; then an insert returns MINI_MOKA_OUT_OF_MEMORY. An entry weighs at most UINT32_MAX, even if it has more bytes.
- * - An insert that finds the cache's memory full doubles it and moves each entry, so a big cache pauses. A cache never grows or pauses if its
+ * - An insert that finds the cache's memory full doubles it and moves each entry, so a big cache pauses. A cache never grows if its
  *   initial_capacity is the maximum number of entries that it will have, also if an insert finds that many and evicts one. Values, and keys of more than 24
  *   bytes, have memory of their own, which an insert of bytes allocates.
  *
