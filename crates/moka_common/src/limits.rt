@@ -1,11 +1,13 @@
 //! The limits of a cache as its calls use them.
-ghost use Rattle.std.specs.Prelude.{◌≡◌, ◌+◌, is_some, nat_le};
-ghost use Rattle.moka_common.specs.Moment.{idle_expired, live_expired};
+ghost use Rattle.std.specs.Prelude.{◌≡◌, ◌+◌, is_some, nat_le, option_map};
+ghost use Rattle.std.specs.Duration.{as_nanos};
+ghost use Rattle.moka_common.specs.Moment.{deadline_of, idle_expired, is_past, live_expired};
 ghost use Rattle.moka_common.specs.Settings.{idle_nanos, live_nanos};
 
 use crate::policy::Policy;
 use crate::time::Instant;
 use std::marker::Model;
+use std::time::Duration;
 
 /// The policy of a cache, with its durations in nanoseconds, which are worked out once. A contract sees the policy alone.
 #[derive(Drop)]
@@ -69,6 +71,27 @@ impl Limits {
         ensures { result ≡ is_some self.now.time_to_idle }
     {
         self.idle.is_some()
+    }
+
+    /// Returns the deadline of an entry that is written at a moment, with its own time to live if it has one. It comes after that or after the cache's,
+    /// whichever is shorter, and at the last moment if that is earlier. Without a time to live of the cache it never comes.
+    #[inline]
+    pub fn deadline(&self, own: Option<Duration>, written: Instant) -> Instant
+        ensures { result ≡ deadline_of (live_nanos self.now) (option_map as_nanos own) written }
+    {
+        match (self.live, own) {
+            (Some(live), Some(own)) => written.after_nanos(live.min(own.as_nanos())),
+            (Some(live), None) => written.after_nanos(live),
+            (None, _) => written,
+        }
+    }
+
+    /// Returns `true` if an entry is past its deadline. It is from that moment on.
+    #[inline]
+    pub fn is_past(&self, deadline: Instant, now: Instant) -> bool
+        ensures { result ≡ is_past (live_nanos self.now) deadline now }
+    {
+        self.live.is_some() && deadline <= now
     }
 
     /// Returns `true` if the time to live has passed since an entry's last write. It has passed from its last moment on.

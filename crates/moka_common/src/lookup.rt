@@ -19,7 +19,7 @@ use std::hash::Hash;
 pub trait Lookup<K: Eq + Hash>: Copy + Hash {
     ghost stands_for: { Self → K → Bool };
 
-    /// Whether it stands for this key.
+    /// Returns `true` if it stands for this key.
     fn stands_for(&self, key: &K) -> bool
         ensures { result ≡ stands_for self.now key.now };
 

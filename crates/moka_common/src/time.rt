@@ -67,7 +67,15 @@ impl Instant {
     pub fn after(self, duration: Duration) -> Instant
         ensures { result ≡ min (self + as_nanos duration) (2 ^ 64 - 1) }
     {
-        let nanos = u128::from(self.nanos) + duration.as_nanos();
+        self.after_nanos(duration.as_nanos())
+    }
+
+    /// Returns the moment that many nanoseconds later, or the last moment if that is later.
+    #[inline]
+    pub fn after_nanos(self, nanos: u128) -> Instant
+        ensures { result ≡ min (self + nanos) (2 ^ 64 - 1) }
+    {
+        let nanos = u128::from(self.nanos).saturating_add(nanos);
         Instant {
             nanos: u64::try_from(nanos).unwrap_or(u64::MAX),
         }

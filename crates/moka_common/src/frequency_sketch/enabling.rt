@@ -31,7 +31,7 @@ impl<A: Allocator + Clone + Drop> FrequencySketch<A> {
 }
 
 impl<A: Allocator + Clone + Drop> FrequencySketch<A> {
-    /// Reserves the table that `enable_if_half_full` makes for this limit, if so many entries fill half of it, each with a weight of 1.
+    /// Reserves the table that `enable_if_half_full` makes for this limit, if this many entries fill half of it, each with a weight of 1.
     pub fn reserve_if_half_full(
         &mut self,
         max_capacity: Option<u64>,
