@@ -1555,6 +1555,19 @@ def gen_sketch(r):
     return lines
 
 
+def with_lives(r, lines):
+    """Returns a script of `unsync` in which some inserts have a time to live of their own, rarely if the cache has none."""
+    is_timed = " live " in lines[0]
+    share = r.choice([0, 0.1, 0.5] if is_timed else [0] * 19 + [0.1])
+    top = r.choice([5, 15, 45])
+
+    def with_live(line):
+        if line.split(" ")[1] != "insert" or r.random() >= share:
+            return line
+        return line + " live " + (duration_of(r) if r.random() < 0.3 else "%dns" % r.randint(0, top))
+    return lines[:1] + [with_live(line) for line in lines[1:]]
+
+
 GEN = {"unsync": gen_unsync, "core": gen_core, "recorded": gen_recorded, "sync": gen_sync, "sketch": gen_sketch}
 
 # ---------------------------------------------------------------- malformed scripts
@@ -1582,7 +1595,11 @@ OTHERS = ["0 get 0", "0 get 1 0", "0 insert 0 a", "0 insert 1 0 a", "0 insert 0 
           "0 has 0", "0 has 1 0", "0 invalidate 0", "0 invalidate 1 0", "0 remove 0", "0 remove 1 0", "0 remove", "0 clear", "clear", "0 count", "count", "0 weight", "0", "0 ", "",
           " ", "0 push", "0 turn 1", "0 clear 1", "0 count 0", "0 take 0", "index 0 4", "inc 0 65536", "inc 0", "len 0", "0 get", "0 insert 0",
           "0 policy 1", "0 iter 0", "0 drop-if", "0 drop-if a b", "insert 0 a", "get 0", "18446744073709551616 clear", "00 clear",
-          "0 get 18446744073709551616", "0 push 4294967296", "0 push 4294967295", "0 insert 4294967296 0 a", "0 insert 0 a 4294967296"]
+          "0 get 18446744073709551616", "0 push 4294967296", "0 push 4294967295", "0 insert 4294967296 0 a", "0 insert 0 a 4294967296",
+          "0 insert 0 a live 5ns", "0 insert 0 a 1 live 5ns", "0 insert 1 0 a live 5ns", "0 insert 1 0 a 1 live 5ns", "0 insert 0 live live 5ns",
+          "0 insert 0 a live", "0 insert 0 a live 5", "0 insert 0 a live 5ns 1", "0 insert 0 a live 5ns live 5ns", "0 insert 0 live 5ns",
+          "0 insert 0 a idle 5ns", "0 insert 0 a LIVE 5ns", "0 insert 0 a live 18446744073709551615s", "0 insert 0 a live 18446744073709551616ns",
+          "0 get 0 live 5ns"]
 
 
 def mutate(r, lines):
@@ -1615,11 +1632,12 @@ def mutate(r, lines):
         elif x == 6:
             lines[0] = r.choice(FIRSTS)
         elif x == 7:
-            words = lines[0].split(" ")
+            i = r.choice([0] + [q for q, line in enumerate(lines) if q > 0 and " live " in line][:1])
+            words = lines[i].split(" ")
             for q, word in enumerate(words):
                 if word in ("live", "idle") and q + 1 < len(words):
                     words[q + 1] = r.choice(DURATIONS)
-            lines[0] = " ".join(words)
+            lines[i] = " ".join(words)
         elif x == 8:
             words = lines[0].split(" ")
             rest = words[1:]
@@ -1664,6 +1682,8 @@ def mutate(r, lines):
 def make(mode, seed, i, malformed):
     r = random.Random("%s/%d/%d" % (mode, seed, i))
     lines = GEN[mode](r)
+    if mode == "unsync":
+        lines = with_lives(random.Random("lives/%d/%d" % (seed, i)), lines)
     if r.random() < 0.125 or malformed:
         return mutate(r, lines)
     return "".join(line + "\n" for line in lines).encode()

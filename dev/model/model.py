@@ -140,11 +140,17 @@ def call_line(mode, options, line):
     forms = LINES[mode][name]
     if name == b"insert" and options.weighed:
         forms = forms + (U32_,)
+    own = None
+    if name == b"insert" and mode == "unsync" and len(words) - 1 == len(forms) + 2 and words[-2] == b"live":
+        own = duration(words[-1])
+        words = words[:-2]
     if len(words) - 1 != len(forms):
         raise Bad()
     args = [form(word) for form, word in zip(forms, words[1:])]
     if name == b"insert" and not options.weighed:
         args.append(1)
+    if name == b"insert" and mode == "unsync":
+        args.append(own)
     return now, name.decode(), args
 
 
@@ -304,6 +310,7 @@ class Row:
         self.hash = key
         self.accessed = now
         self.modified = now
+        self.deadline = None     # only in `unsync`
         self.ticket = ticket
 
 
@@ -316,6 +323,22 @@ def live_expired(o, row, t):
 
 
 # ---------------------------------------------------------------- unsync
+
+def deadline_of(o, own, t):
+    """Returns the moment from which on a row that is written at `t` is expired, or `None` without a time to live."""
+    if o.live is None:
+        return None
+    if own is not None:
+        SEEN["unsync own time to live %s" % ("0" if own == 0 else "below the cache's" if own < o.live else "not below the cache's")] += 1
+    lives = o.live if own is None else min(own, o.live)
+    if t + lives > U64:
+        SEEN["unsync deadline beyond the last moment"] += 1
+    return t + lives
+
+
+def is_past(row, t):
+    return row.deadline is not None and row.deadline <= t
+
 
 def front(q, f, x):
     """Returns the shortest prefix of q whose f sums to at least x, or None if there is none."""
@@ -414,19 +437,21 @@ class Unsync:
         return list(rows) if f is None else f
 
     def expired(self, r, now):
-        return idle_expired(self.o, r, now) or live_expired(self.o, r, now)
+        return idle_expired(self.o, r, now) or is_past(r, now)
 
     def expire(self, now):
         if self.o.live is not None:
             gone = []
             for r in self.writes:
-                if not live_expired(self.o, r, now):
+                if not is_past(r, now):
                     break
                 gone.append(r)
             if len(gone) > 100:
                 SEEN["unsync over 100 live-expired"] += 1
             if gone:
                 SEEN["unsync live-expired"] += 1
+            if any(is_past(r, now) for r in self.writes[len(gone):]):
+                SEEN["unsync live-expired after a fresh one"] += 1
             self.leave(gone[:100])
         if self.o.idle is not None:
             for place, rows in (("window", self.window), ("probation", self.probation), ("protected", self.protected)):
@@ -583,6 +608,9 @@ class Unsync:
         if name == "drop-if":
             self.leave([r for r in self.rows() if r.value == a[0]])
             return "ok"
+        if name == "insert" and a[3] is not None and self.o.live is None:
+            SEEN["unsync refused time-to-live"] += 1
+            return "refused time-to-live"
         self.pre(now)
         if name == "get":
             self.table.count(a[0])
@@ -616,20 +644,25 @@ class Unsync:
                 return "none"
             return "some " + r.value
         if name == "insert":
-            key, value, w = a
+            key, value, w, own = a
+            deadline = deadline_of(self.o, own, now)
             r = self.row_of(key)
             if r is not None:
                 if self.expired(r, now):
                     SEEN["unsync insert on an expired row that remained"] += 1
+                if deadline is not None and deadline < r.deadline:
+                    SEEN["unsync update with an earlier deadline"] += 1
                 r.value = value
                 r.weight = w
                 r.accessed = now
                 r.modified = now
+                r.deadline = deadline
                 self.used(r)
                 self.writes.remove(r)
                 self.writes.append(r)
                 return "ok"
             new = Row(key, value, w, now)
+            new.deadline = deadline
             if self.has_window():
                 self.arrive(new)
             elif self.main_takes(self.o.max, new.hash, w, "new row"):

@@ -69,10 +69,10 @@ module _ {K V S W : Type 0} (keys : Keys K S) (laws : IsEquivalence keys.eq) {L 
     (answer : L → Inserted)
     (turns : (a b : L) (key : K) (value : V) (cause : Cause) → hears a key value cause b → answer b ≡ heard cause (answer a)) where
   -- the answer says if the key has an entry
-  pub insert_told : (weighs : W → K → V → ℕ → W → Type 0) (old new : CacheState K V S W) (key : K) (value : V) (now : ℕ) (a b : L)
-      → answer a ≡ Stored → IsInserted keys weighs old key value now new → TellsInsert hears keys old now key value new a b
+  pub insert_told : (weighs : W → K → V → ℕ → W → Type 0) (old new : CacheState K V S W) (key : K) (value : V) (own : Option ℕ) (now : ℕ) (a b : L)
+      → answer a ≡ Stored → IsInserted keys weighs old key value own now new → TellsInsert hears keys old now key value new a b
       → answer b ≡ inserted_of (is_some (entry_at keys.eq key new.contents.entries))
-  insert_told weighs old new key value now a b stored inserted t =
+  insert_told weighs old new key value own now a b stored inserted t =
       by (entry_at keys.eq key (kept hears keys old now).entries) refl t.put
     where
       before : answer t.between ≡ Stored
@@ -83,7 +83,7 @@ module _ {K V S W : Type 0} (keys : Keys K S) (laws : IsEquivalence keys.eq) {L 
       by None is put =
           put-told hears answer turns (main_max (windowed old) (windowed new) old.settings.policy.max_capacity) (is_some
           (entry_at keys.eq key new.contents.entries))
-          (new_entry keys old.settings.hash_state key value put.0 now) (kept hears keys old now).entries new.contents.entries t.between b before put.1
+          (new_entry keys old.settings key value put.0 put.1 now) (kept hears keys old now).entries new.contents.entries t.between b before put.2
       by (Some there) is heard-it =
           turns t.between b key there.value (cause_at old.settings.policy now there cause.Replaced) heard-it
           ∙ (updated (is_expired old.settings.policy now there) (answer t.between)
@@ -91,21 +91,22 @@ module _ {K V S W : Type 0} (keys : Keys K S) (laws : IsEquivalence keys.eq) {L 
           ∙ sym (ap inserted_of
           (ap (λ c. is_some (entry_at keys.eq key c.contents.entries)) inserted.step
           ∙ put-stands keys laws (record old { weigher = inserted.weigher; capacity = inserted.capacity; contents = kept hears keys old now })
-          (entry_at keys.eq key (kept hears keys old now).entries) (new_entry keys old.settings.hash_state key value inserted.weight now) there
+          (entry_at keys.eq key (kept hears keys old now).entries) (new_entry keys old.settings key value inserted.weight own now) there
           inserted.refused refl is))))
 
 -- an insert of bytes answers so
-pub bytes_answered : (old new : ByteCacheState) (key value : List ℕ) (now : ℕ) (before after : Leaving (List ℕ) (List ℕ)) → before.inserted ≡ Stored
-    → IsInserted byte_keys byte_weighs old key value now new → TellsInsert hears_leaving byte_keys old now key value new before after
+pub bytes_answered : (old new : ByteCacheState) (key value : List ℕ) (own : Option ℕ) (now : ℕ) (before after : Leaving (List ℕ) (List ℕ))
+    → before.inserted ≡ Stored
+    → IsInserted byte_keys byte_weighs old key value own now new → TellsInsert hears_leaving byte_keys old now key value new before after
     → after.inserted ≡ inserted_of (is_some (entry_at byte_keys.eq key new.contents.entries))
-bytes_answered old new key value now before after =
+bytes_answered old new key value own now before after =
     insert_told byte_keys nat_list_eq_equiv hears_leaving (λ (l : Leaving (List ℕ) (List ℕ)). l.inserted)
-    (λ a b key value cause is. ap (λ (l : Leaving (List ℕ) (List ℕ)). l.inserted) is) byte_weighs old new key value now before after
+    (λ a b key value cause is. ap (λ (l : Leaving (List ℕ) (List ℕ)). l.inserted) is) byte_weighs old new key value own now before after
 
 -- and one of numbers
-pub numbers_answered : (old new : NumberCacheState) (key value now : ℕ) (before after : Leaving ℕ ℕ) → before.inserted ≡ Stored
-    → IsInserted number_keys weighs_one old key value now new → TellsInsert hears_leaving number_keys old now key value new before after
+pub numbers_answered : (old new : NumberCacheState) (key value : ℕ) (own : Option ℕ) (now : ℕ) (before after : Leaving ℕ ℕ) → before.inserted ≡ Stored
+    → IsInserted number_keys weighs_one old key value own now new → TellsInsert hears_leaving number_keys old now key value new before after
     → after.inserted ≡ inserted_of (is_some (entry_at number_keys.eq key new.contents.entries))
-numbers_answered old new key value now before after =
+numbers_answered old new key value own now before after =
     insert_told number_keys nat_eq_equiv hears_leaving (λ (l : Leaving ℕ ℕ). l.inserted)
-    (λ a b key value cause is. ap (λ (l : Leaving ℕ ℕ). l.inserted) is) weighs_one old new key value now before after
+    (λ a b key value cause is. ap (λ (l : Leaving ℕ ℕ). l.inserted) is) weighs_one old new key value own now before after

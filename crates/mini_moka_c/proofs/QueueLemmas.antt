@@ -68,7 +68,7 @@ module _ {K V L Q : Type 0} (hears : L → K → V → Cause → L → Type 0) (
     -- what the entry leaves that is put
     new-gotten : (o : Option (Entry K V)) (key : K) (value : V) (new : CacheState K V S W) (a b : L) → TellsNew hears keys old now o key value new a b
         → TellsNew gets keys old now o key value new (part a) (part b)
-    new-gotten None key value new a b put = (put.0, put-gotten _ _ _ _ _ a b put.1)
+    new-gotten None key value new a b put = (put.0, put.1, put-gotten _ _ _ _ _ a b put.2)
     new-gotten (Some there) key value new a b heard =
         turns a b key there.value (cause_at old.settings.policy now there cause.Replaced) heard
 
@@ -108,10 +108,10 @@ module _ {K V S W : Type 0} (keys : Keys K S) (old : CacheState K V S W) (now : 
     found = expired-gotten hears_leaving queues (λ l. l.removed) turned old.settings.policy now _ t.between b t.found;
   }
 
--- of the removal of all entries
-pub clearing_queued : {K V : Type 0} {Reason : Entry K V → Type 0} (were are : List (Entry K V)) (a b : Leaving K V)
-    → TellsWhatLeft hears_leaving cause.Explicit Reason were are a b → TellsWhatLeft queues cause.Explicit Reason were are a.removed b.removed
-clearing_queued were are a b = left-gotten hears_leaving queues (λ l. l.removed) turned cause.Explicit were are a b
+-- of the removal of all entries, or of all expired ones
+pub leaving_queued : {K V : Type 0} {Reason : Entry K V → Type 0} (c : Cause) (were are : List (Entry K V)) (a b : Leaving K V)
+    → TellsWhatLeft hears_leaving c Reason were are a b → TellsWhatLeft queues c Reason were are a.removed b.removed
+leaving_queued c were are a b = left-gotten hears_leaving queues (λ l. l.removed) turned c were are a b
 
 module _ {K V : Type 0} where
   -- a queue once an entry left, by whether its capacity is 0 and whether it has room

@@ -99,7 +99,7 @@ module _ {K V S W : Type 0} (keys : Keys K S) {L : Type 0} (hears : L → K → 
       by None put =
           put-counted hears counts turns old.settings.policy now (main_max (windowed old) (windowed new) old.settings.policy.max_capacity) (is_some
           (entry_at keys.eq key new.contents.entries))
-          (new_entry keys old.settings.hash_state key value put.0 now) (kept hears keys old now).entries new.contents.entries t.between b put.1
+          (new_entry keys old.settings key value put.0 put.1 now) (kept hears keys old now).entries new.contents.entries t.between b put.2
       by (Some there) heard-it = turns t.between b key there.value (cause_at old.settings.policy now there cause.Replaced) heard-it
 
   -- an invalidation counts that, and the entry of its key
@@ -140,6 +140,13 @@ clearing_counted {K} {V} were a b t =
     each-counted hears_leaving (λ (l : Leaving K V). l.statistics) (λ a b key value cause is. ap (λ (l : Leaving K V). l.statistics) is) cause.Explicit t.told
     a b t.heard
     ∙ ap (λ n. with_left n cause.Explicit a.statistics) (all-told were t.told t.each)
+
+-- so are those that leave as expired
+pub expiry_counted : {K V : Type 0} {Reason : Entry K V → Type 0} (were are : List (Entry K V)) (a b : Leaving K V)
+    → TellsWhatLeft hears_leaving cause.Expired Reason were are a b → b.statistics ≡ with_left (length were - length are) cause.Expired a.statistics
+expiry_counted {K} {V} were are a b =
+    left-counted hears_leaving (λ (l : Leaving K V). l.statistics) (λ a b key value cause is. ap (λ (l : Leaving K V). l.statistics) is) cause.Expired were
+    are a b
 
 module _ {K V S W : Type 0} (keys : Keys K S) (old : CacheState K V S W) (now : ℕ) (a b : Leaving K V) where
   -- the same, of a listener that queues too

@@ -1,5 +1,5 @@
 -- How a call on a handle of bytes tells what the call of its cache answers.
-use Rattle.std.specs.Prelude.{◌≡◌, ◌⊎◌, ◌&&◌, ℕ, true, List, is_some, length, nat_le, Option, Some, None, option_map, if◌then◌else◌}
+use Rattle.std.specs.Prelude.{◌≡◌, ◌⊎◌, ◌&&◌, ℕ, true, List, is_some, length, nat_le, Option, Some, None, IsSome, option_map, if◌then◌else◌}
 use Rattle.moka_unsync.specs.Contents.{entry_at}
 use Rattle.moka_unsync.specs.Insert.{IsInserted}
 use Rattle.moka_unsync.specs.Invalidate.{after_invalidate}
@@ -15,7 +15,7 @@ use Rattle.mini_moka_c.specs.declared.steps.Step.TheVariants as step
 use Rattle.mini_moka_c.specs.Walk.{BytePair, IsLong, fitting, met_after, next_pair, step_of, walk_after}
 use Rattle.mini_moka_c.specs.Removed.{QueuesTaken, queues}
 use Rattle.mini_moka_c.specs.Statistics.{with_get, with_insertion, with_remove, with_taken, with_cleanup}
-use Rattle.mini_moka_c.specs.declared.constants.TheConstants.{ABSENT, CHANGED, DONE, OUT_OF_MEMORY, TOO_SHORT}
+use Rattle.mini_moka_c.specs.declared.constants.TheConstants.{ABSENT, CHANGED, DONE, NO_TIME_TO_LIVE, OUT_OF_MEMORY, TOO_SHORT}
 use Rattle.mini_moka_c.specs.Calls.{TellsLength, TellsTruth}
 
 -- memory was refused: all entries are as they were, nothing is counted or queued, and a walk stands where it stood
@@ -26,18 +26,24 @@ IsBytesRefusal old new = new ≡ record old { cache = record old.cache { capacit
 abbrev pub TellsRefusal : ℕ → ByteCache → ByteCache → Type 0
 TellsRefusal status old new = (status ≡ OUT_OF_MEMORY) × IsBytesRefusal old new
 
--- the pair was put, and is counted, and what leaves is queued
-pub record IsBytesInsert (key value : List ℕ) (now : ℕ) (old new : ByteCache) : Type 0 where
-  pub step : IsInserted byte_keys byte_weighs old.cache key value now new.cache
+-- the pair was put, with its own time to live if it has one, and is counted, and what leaves is queued
+pub record IsBytesInsert (key value : List ℕ) (own : Option ℕ) (now : ℕ) (old new : ByteCache) : Type 0 where
+  pub step : IsInserted byte_keys byte_weighs old.cache key value own now new.cache
   pub counts : new.leaving.statistics ≡ with_insertion byte_keys old.cache now key new.cache old.leaving.statistics
   pub removed : told.TellsInsert queues byte_keys old.cache now key value new.cache old.leaving.removed new.leaving.removed
   pub walk : new.walk ≡ Ended
 
 -- the pair was put, and the status says if the key has an entry now; or memory was refused
-abbrev pub TellsBytesInsert : List ℕ → List ℕ → ℕ → ℕ → ByteCache → ByteCache → Type 0
-TellsBytesInsert key value now status old new =
-    ((status ≡ status_of (inserted_of (is_some (entry_at byte_keys.eq key new.cache.contents.entries)))) × IsBytesInsert key value now old new)
+abbrev pub TellsBytesInsert : List ℕ → List ℕ → Option ℕ → ℕ → ℕ → ByteCache → ByteCache → Type 0
+TellsBytesInsert key value own now status old new =
+    ((status ≡ status_of (inserted_of (is_some (entry_at byte_keys.eq key new.cache.contents.entries)))) × IsBytesInsert key value own now old new)
     ⊎ TellsRefusal status old new
+
+-- the same with its own time to live; or the cache has none, and nothing was done
+abbrev pub TellsBytesInsertFor : List ℕ → List ℕ → ℕ → ℕ → ℕ → ByteCache → ByteCache → Type 0
+TellsBytesInsertFor key value own now status old new =
+    (IsSome old.cache.settings.policy.time_to_live × TellsBytesInsert key value (Some own) now status old new)
+    ⊎ ((old.cache.settings.policy.time_to_live ≡ None) × (status ≡ NO_TIME_TO_LIVE) × (new ≡ old))
 
 -- what was found is told by its length, and copied where the buffer is long enough
 abbrev pub TellsBytesFound : Option (List ℕ) → List ℕ → ℕ → List ℕ → ℕ → Type 0
@@ -63,7 +69,7 @@ TellsBytesGotOrInserted key otherwise now buffer status filled written old new =
     ((is_some (found_by_get byte_keys old.cache key now) ≡ true)
     × TellsBytesFound (found_by_get byte_keys old.cache key now) buffer status filled written × IsBytesGet key now old new)
     ⊎ ((missed : ByteCache) × (found_by_get byte_keys old.cache key now ≡ None) × IsBytesGet key now old missed
-    × ((TellsBytesFound (Some otherwise) buffer status filled written × IsBytesInsert key otherwise now missed new) ⊎ TellsRefusal status missed new))
+    × ((TellsBytesFound (Some otherwise) buffer status filled written × IsBytesInsert key otherwise None now missed new) ⊎ TellsRefusal status missed new))
 
 -- what a peek finds
 abbrev pub TellsBytesPeek : List ℕ → ℕ → List ℕ → ℕ → List ℕ → ℕ → ByteCache → ByteCache → Type 0

@@ -1,10 +1,16 @@
 -- How a call on a handle tells what the call of its cache answers.
-use Rattle.std.specs.Prelude.{◌≡◌, ⊤, ℕ, Bool, true, false, [], length, nat_le, Option, Some, None, if◌then◌else◌}
+use Rattle.std.specs.Prelude.{◌≡◌, ⊤, ℕ, Bool, true, false, [], length, nat_le, Option, Some, None, IsSome, if◌then◌else◌}
+use Rattle.moka_common.specs.Policy.{Policy}
 use Rattle.moka_unsync.specs.Contents.{weighted_size}
 use Rattle.moka_unsync.specs.CacheState.{window_limit}
-use Rattle.moka_unsync.specs.Invalidate.{after_invalidate_all}
+use Rattle.moka_unsync.specs.Cleanup.{is_expired}
+use Rattle.moka_unsync.specs.Invalidate.{after_invalidate_all, after_remove_expired}
+use Rattle.moka_unsync.specs.declared.error.TimedInsertError.{TimedInsertError}
+use Rattle.moka_unsync.specs.declared.error.TimedInsertError.TheVariants as timed
 use Rattle.moka_unsync_model.specs.Told.{TellsWhatLeft}
-use Rattle.moka_unsync_model.specs.declared.listener.Cause.TheVariants.{Explicit}
+use Rattle.moka_unsync_model.specs.declared.listener.Cause.TheVariants.{Expired, Explicit}
+use Rattle.mini_moka_c.specs.ByteKeys.{byte_keys}
+use Rattle.mini_moka_c.specs.NumberKeys.{number_keys}
 use Rattle.mini_moka_c.specs.declared.cache.ByteCache.{ByteCache}
 use Rattle.mini_moka_c.specs.declared.steps.Walk.TheVariants.{AtStart, Ended}
 use Rattle.mini_moka_c.specs.declared.constants.TheConstants.{ABSENT, CLOSED, DONE, OTHER_KIND, TOO_SHORT}
@@ -12,8 +18,13 @@ use Rattle.mini_moka_c.specs.declared.handle.AnyCache.{AnyCache}
 use Rattle.mini_moka_c.specs.declared.handle.AnyCache.TheVariants.{Bytes, Numbers}
 use Rattle.mini_moka_c.specs.declared.number_cache.NumberCache.{NumberCache}
 use Rattle.mini_moka_c.specs.Removed.{queues}
-use Rattle.mini_moka_c.specs.Statistics.{with_clearing}
+use Rattle.mini_moka_c.specs.Statistics.{with_clearing, with_expiry}
 use Rattle.mini_moka_c.specs.declared.statistics.Report.{Report}
+
+-- why an insert with its own time to live was refused, and what it left
+abbrev pub IsTimedRefusal : {C : Type 0} → (C → C → Type 0) → TimedInsertError → Policy → C → C → Type 0
+IsTimedRefusal refuses timed.NoTimeToLive policy old new = (policy.time_to_live ≡ None) × (new ≡ old)
+IsTimedRefusal refuses timed.OutOfMemory policy old new = IsSome policy.time_to_live × refuses old new
 
 -- a closed handle answers that it is closed, and stays so; an open one stays open, and what it keeps becomes this of that
 abbrev pub OnOpen : Option AnyCache → ℕ → Option AnyCache → (AnyCache → AnyCache → Type 0) → Type 0
@@ -67,6 +78,26 @@ IsEmptied (Numbers old) (Numbers new) = IsNumbersEmptied old new
 IsEmptied (Numbers old) (Bytes new) = ⊥
 IsEmptied (Bytes old) (Numbers new) = ⊥
 IsEmptied (Bytes old) (Bytes new) = IsBytesEmptied old new
+
+-- all expired entries have left, are counted and queued, which ends a walk
+pub record IsNumbersSwept (now : ℕ) (old new : NumberCache) : Type 0 where
+  pub step : new ≡ record old { cache = after_remove_expired number_keys old.cache now; leaving = new.leaving; walk = Ended }
+  pub counts : new.leaving.statistics ≡ with_expiry number_keys old.cache now old.leaving.statistics
+  pub removed : TellsWhatLeft queues Expired (λ e. is_expired old.cache.settings.policy now e ≡ true) old.cache.contents.entries
+      new.cache.contents.entries old.leaving.removed new.leaving.removed
+
+-- and of bytes
+pub record IsBytesSwept (now : ℕ) (old new : ByteCache) : Type 0 where
+  pub step : new ≡ record old { cache = after_remove_expired byte_keys old.cache now; leaving = new.leaving; walk = Ended }
+  pub counts : new.leaving.statistics ≡ with_expiry byte_keys old.cache now old.leaving.statistics
+  pub removed : TellsWhatLeft queues Expired (λ e. is_expired old.cache.settings.policy now e ≡ true) old.cache.contents.entries
+      new.cache.contents.entries old.leaving.removed new.leaving.removed
+
+abbrev pub IsSwept : ℕ → AnyCache → AnyCache → Type 0
+IsSwept now (Numbers old) (Numbers new) = IsNumbersSwept now old new
+IsSwept now (Numbers old) (Bytes new) = ⊥
+IsSwept now (Bytes old) (Numbers new) = ⊥
+IsSwept now (Bytes old) (Bytes new) = IsBytesSwept now old new
 
 -- what is kept once a walk was begun
 abbrev pub walking : AnyCache → AnyCache

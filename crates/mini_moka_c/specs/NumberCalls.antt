@@ -1,5 +1,5 @@
 -- How a call on a handle of numbers tells what the call of its cache answers.
-use Rattle.std.specs.Prelude.{◌≡◌, ◌⊎◌, ℕ, is_some, Option, Some, None}
+use Rattle.std.specs.Prelude.{◌≡◌, ◌⊎◌, ℕ, is_some, Option, Some, None, IsSome}
 use Rattle.moka_common.specs.Weight.{unit_weighs}
 use Rattle.moka_unsync.specs.Contents.{entry_at}
 use Rattle.moka_unsync.specs.Insert.{IsInserted, IsRefused}
@@ -10,7 +10,7 @@ use Rattle.mini_moka_c.specs.declared.number_cache.NumberCache.{NumberCache}
 use Rattle.mini_moka_c.specs.declared.steps.NumberStep.{NumberStep}
 use Rattle.mini_moka_c.specs.declared.steps.NumberStep.TheVariants as step
 use Rattle.mini_moka_c.specs.declared.steps.Walk.TheVariants.{Ended}
-use Rattle.mini_moka_c.specs.declared.constants.TheConstants.{ABSENT, CHANGED, DONE, OUT_OF_MEMORY}
+use Rattle.mini_moka_c.specs.declared.constants.TheConstants.{ABSENT, CHANGED, DONE, NO_TIME_TO_LIVE, OUT_OF_MEMORY}
 use Rattle.mini_moka_c.specs.Calls.{TellsTruth}
 use Rattle.mini_moka_c.specs.Inserted.{inserted_of, status_of}
 use Rattle.mini_moka_c.specs.NumberKeys.{number_keys}
@@ -23,8 +23,8 @@ abbrev pub weighs_one : {W : Type 0} → W → ℕ → ℕ → ℕ → W → Typ
 weighs_one before key value weight after = unit_weighs key value weight × (after ≡ before)
 
 -- the pair goes into the cache at a moment, each entry weighing the same, and is counted, and what leaves is queued
-pub record IsNumberInsert (key value now : ℕ) (old new : NumberCache) : Type 0 where
-  pub step : IsInserted number_keys weighs_one old.cache key value now new.cache
+pub record IsNumberInsert (key value : ℕ) (own : Option ℕ) (now : ℕ) (old new : NumberCache) : Type 0 where
+  pub step : IsInserted number_keys weighs_one old.cache key value own now new.cache
   pub counts : new.leaving.statistics ≡ with_insertion number_keys old.cache now key new.cache old.leaving.statistics
   pub removed : told.TellsInsert queues number_keys old.cache now key value new.cache old.leaving.removed new.leaving.removed
   pub walk : new.walk ≡ Ended
@@ -60,10 +60,16 @@ TellsFound (Some value) status written = (status ≡ DONE) × (written ≡ value
 TellsFound None status written = status ≡ ABSENT
 
 -- the pair was put, and the status says if the key has an entry now; or memory was refused
-abbrev pub TellsInsert : ℕ → ℕ → ℕ → ℕ → NumberCache → NumberCache → Type 0
-TellsInsert key value now status old new =
-    ((status ≡ status_of (inserted_of (is_some (entry_at number_keys.eq key new.cache.contents.entries)))) × IsNumberInsert key value now old new)
+abbrev pub TellsInsert : ℕ → ℕ → Option ℕ → ℕ → ℕ → NumberCache → NumberCache → Type 0
+TellsInsert key value own now status old new =
+    ((status ≡ status_of (inserted_of (is_some (entry_at number_keys.eq key new.cache.contents.entries)))) × IsNumberInsert key value own now old new)
     ⊎ ((status ≡ OUT_OF_MEMORY) × IsNumberRefusal old new)
+
+-- the same with its own time to live; or the cache has none, and nothing was done
+abbrev pub TellsInsertFor : ℕ → ℕ → ℕ → ℕ → ℕ → NumberCache → NumberCache → Type 0
+TellsInsertFor key value own now status old new =
+    (IsSome old.cache.settings.policy.time_to_live × TellsInsert key value (Some own) now status old new)
+    ⊎ ((old.cache.settings.policy.time_to_live ≡ None) × (status ≡ NO_TIME_TO_LIVE) × (new ≡ old))
 
 -- what a get finds
 abbrev pub TellsGet : ℕ → ℕ → ℕ → ℕ → NumberCache → NumberCache → Type 0
@@ -91,7 +97,7 @@ abbrev pub TellsGotOrInserted : ℕ → ℕ → ℕ → ℕ → ℕ → NumberCa
 TellsGotOrInserted key otherwise now status written old new =
     ((status ≡ DONE) × IsNumberGet key now (Some written) old new)
     ⊎ ((missed : NumberCache) × IsNumberGet key now None old missed
-    × (((status ≡ DONE) × (written ≡ otherwise) × IsNumberInsert key otherwise now missed new)
+    × (((status ≡ DONE) × (written ≡ otherwise) × IsNumberInsert key otherwise None now missed new)
     ⊎ ((status ≡ OUT_OF_MEMORY) × IsNumberRefusal missed new)))
 
 -- a walk has ended, each entry was met, or the next one is written

@@ -4,6 +4,7 @@ use Rattle.moka_common.specs.Keys.{Keys}
 use Rattle.moka_common.specs.Policy.{Policy}
 use Rattle.moka_unsync_model.specs.CacheState.{CacheState}
 use Rattle.moka_unsync_model.specs.Contents.{entry_at}
+use Rattle.moka_unsync_model.specs.Invalidate.{after_remove_expired}
 use Rattle.moka_unsync_model.specs.Lookup.{after_look}
 use Rattle.moka_unsync_model.specs.Cleanup.{after_expiry}
 use Rattle.moka_unsync_model.specs.Told.{cause_at}
@@ -88,3 +89,8 @@ module _ {K V S W : Type 0} (keys : Keys K S) (old : CacheState K V S W) (now : 
 -- the counts once all entries were removed
 abbrev pub with_clearing : {K V S W : Type 0} → CacheState K V S W → Statistics → Statistics
 with_clearing old counts = with_left (length old.contents.entries) cause.Explicit counts
+
+-- the counts once all expired entries are removed
+abbrev pub with_expiry : {K V S W : Type 0} → Keys K S → CacheState K V S W → ℕ → Statistics → Statistics
+with_expiry keys old now counts =
+    with_left (length old.contents.entries - length (after_remove_expired keys old now).contents.entries) cause.Expired counts

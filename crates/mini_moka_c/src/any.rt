@@ -1,11 +1,12 @@
 // The calls of a handle that are the same for bytes and for numbers.
 ghost use Rattle.std.specs.Prelude.{◌≡◌, ◌≢◌, None};
 ghost use Rattle.std.specs.Option.{MatchOption};
-ghost use Rattle.mini_moka_c.specs.Calls.{IsEmptied, OnOpen, count_of, statistics_of, walking, weight_of, window_of};
+ghost use Rattle.mini_moka_c.specs.Calls.{IsEmptied, IsSwept, OnOpen, count_of, statistics_of, walking, weight_of, window_of};
 
 use crate::constants::{CLOSED, DONE};
 use crate::handle::Handle;
 use crate::statistics::Report;
+use moka_common::time::Instant;
 use std::alloc::Global;
 
 /// Closes the handle, and frees its cache. Closing a closed handle answers `CLOSED`.
@@ -28,6 +29,20 @@ pub extern "C" fn mini_moka_invalidate_all(handle: &mut Handle) -> u32
     match handle.kept() {
         Some(kept) => {
             kept.invalidate_all();
+            DONE
+        }
+        None => CLOSED,
+    }
+}
+
+/// Removes all expired entries, also those behind unexpired ones in the orders of writing and of use.
+#[unsafe(no_mangle)]
+pub extern "C" fn mini_moka_remove_expired(handle: &mut Handle, now: u64) -> u32
+    ensures { OnOpen handle.old.value result handle.new.value (λ old new. (result ≡ DONE) × IsSwept now old new) }
+{
+    match handle.kept() {
+        Some(kept) => {
+            kept.remove_expired(Instant::from_nanos(now));
             DONE
         }
         None => CLOSED,

@@ -1,16 +1,18 @@
 // The calls of a cache of bytes. Each borrows the cache from its handle, and makes one call of it.
-ghost use Rattle.std.specs.Prelude.{◌≡◌, ◌≢◌, false, IfErr, IfOk, Some};
+ghost use Rattle.std.specs.Prelude.{◌≡◌, ◌≢◌, false, IfErr, IfOk, None, Some};
 ghost use Rattle.mini_moka_c.specs.ByteCalls.{TellsBytesFound, TellsBytesGet, TellsBytesGotOrInserted, TellsBytesInsert, TellsBytesLook, TellsBytesPeek};
-ghost use Rattle.mini_moka_c.specs.ByteCalls.{TellsBytesRemove, TellsInvalidate};
+ghost use Rattle.mini_moka_c.specs.ByteCalls.{TellsBytesInsertFor, TellsBytesRemove, TellsInvalidate};
 ghost use Rattle.mini_moka_c.specs.Calls.{OnBytes, OnOpen, TellsLength};
 ghost use Rattle.mini_moka_c.specs.Opening.{IsBytesKept, IsOpening, refusal_of, settings_fault};
 
-use crate::constants::{ABSENT, ALREADY_OPEN, DONE, OUT_OF_MEMORY, TOO_SHORT};
+use crate::constants::{ABSENT, ALREADY_OPEN, DONE, NO_TIME_TO_LIVE, OUT_OF_MEMORY, TOO_SHORT};
 use crate::handle::{AnyCache, Handle};
 use crate::key::Bytes;
 use crate::settings::{ByteSettings, build_bytes, settings_fault};
 use moka_common::time::Instant;
+use moka_unsync::error::TimedInsertError;
 use std::alloc::Global;
+use std::time::Duration;
 
 /// Opens a closed handle with a new cache of bytes. If a duration is 0, a share is above 100 or memory is refused it stays closed, and an open handle
 /// stays as it is: `ALREADY_OPEN`.
@@ -62,12 +64,36 @@ pub extern "C" fn mini_moka_insert(
     value: &[u8],
     now: u64,
 ) -> u32
-    ensures { OnOpen handle.old.value result handle.new.value (OnBytes result (TellsBytesInsert key.now value.now now result)) }
+    ensures { OnOpen handle.old.value result handle.new.value (OnBytes result (TellsBytesInsert key.now value.now None now result)) }
 {
     match handle.bytes() {
         Ok(bytes) => match bytes.insert(alloc, key, value, Instant::from_nanos(now)) {
             Ok(inserted) => inserted.status(),
             Err(_) => OUT_OF_MEMORY,
+        },
+        Err(status) => status,
+    }
+}
+
+/// Inserts a copy of the key and the value, as `mini_moka_insert` does, with its own time to live in nanoseconds. The entry expires after that, or after the
+/// cache's time to live if that is shorter. In a cache without one nothing is done: `NO_TIME_TO_LIVE`.
+#[unsafe(no_mangle)]
+pub extern "C" fn mini_moka_insert_for(
+    alloc: Global,
+    handle: &mut Handle,
+    key: &[u8],
+    value: &[u8],
+    time_to_live: u64,
+    now: u64,
+) -> u32
+    ensures { OnOpen handle.old.value result handle.new.value (OnBytes result (TellsBytesInsertFor key.now value.now time_to_live now result)) }
+{
+    let own = Duration::from_nanos(time_to_live);
+    match handle.bytes() {
+        Ok(bytes) => match bytes.insert_for(alloc, key, value, own, Instant::from_nanos(now)) {
+            Ok(inserted) => inserted.status(),
+            Err(TimedInsertError::NoTimeToLive) => NO_TIME_TO_LIVE,
+            Err(TimedInsertError::OutOfMemory) => OUT_OF_MEMORY,
         },
         Err(status) => status,
     }
@@ -145,7 +171,7 @@ pub extern "C" fn mini_moka_get_or_insert(
             if found.is_some() {
                 return tell(found, buffer.len(), length);
             }
-            match bytes.insert_hashed(alloc, key, hash, otherwise, now) {
+            match bytes.insert_hashed(alloc, key, hash, otherwise, None, now) {
                 Ok(_) => tell_copy(otherwise, buffer, length),
                 Err(_) => OUT_OF_MEMORY,
             }

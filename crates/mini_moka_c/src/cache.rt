@@ -1,22 +1,25 @@
 //! A cache of bytes.
-ghost use Rattle.std.specs.Prelude.{◌≡◌, ⊤, [], length, nat_le, IfErr, IfOk, is_some, None, OnErr, OnOk, option_copied, option_map};
+ghost use Rattle.std.specs.Prelude.{◌≡◌, ⊤, [], length, nat_le, IfErr, IfOk, is_some, IsSome, None, OnErr, OnOk, option_copied, option_map, Some, true};
+ghost use Rattle.std.specs.Duration.{as_nanos};
 ghost use Rattle.std.specs.Map.Iter.{deref_pair};
 ghost use Rattle.moka_unsync.specs.Builder.{IsBuilt, refusal_of};
+ghost use Rattle.moka_unsync.specs.Cleanup.{is_expired};
 ghost use Rattle.moka_unsync.specs.Contents.{entry_at};
-ghost use Rattle.moka_unsync.specs.Invalidate.{after_invalidate, after_invalidate_all};
+ghost use Rattle.moka_unsync.specs.Invalidate.{after_invalidate, after_invalidate_all, after_remove_expired};
 ghost use Rattle.moka_unsync.specs.Lookup.{after_look, found_by_get, found_by_peek, is_contained};
 ghost use Rattle.moka_unsync_model.specs.Told.{TellsWhatLeft};
 ghost use Rattle.moka_unsync_model.specs.ToldCalls.{TellsInvalidate, TellsLook};
-ghost use Rattle.moka_unsync_model.specs.declared.listener.Cause.TheVariants.{Explicit};
+ghost use Rattle.moka_unsync_model.specs.declared.listener.Cause.TheVariants.{Expired, Explicit};
 ghost use Rattle.mini_moka_c.specs.Buffer.{IsTaken, copied_to, is_longer};
 ghost use Rattle.mini_moka_c.specs.ByteCalls.{IsBytesGet, IsBytesInsert, IsBytesRefusal};
 ghost use Rattle.mini_moka_c.specs.ByteKeys.{byte_keys};
+ghost use Rattle.mini_moka_c.specs.Calls.{IsTimedRefusal};
 ghost use Rattle.mini_moka_c.specs.Inserted.{inserted_of};
 ghost use Rattle.mini_moka_c.specs.Drain.{drained_by, drained_of, pair_of};
 ghost use Rattle.mini_moka_c.specs.Removed.{QueuesTaken, oldest, queues};
 ghost use Rattle.mini_moka_c.specs.Walk.{IsLong, fitting, met_after, next_pair, step_of, walk_after};
 ghost use Rattle.mini_moka_c.specs.declared.steps.Walk.TheVariants.{AtStart, Ended};
-ghost use Rattle.mini_moka_c.specs.Statistics.{no_statistics, with_clearing, with_remove, with_taken, with_cleanup};
+ghost use Rattle.mini_moka_c.specs.Statistics.{no_statistics, with_clearing, with_expiry, with_remove, with_taken, with_cleanup};
 
 use crate::inserted::Inserted;
 use crate::key::{Bytes, Key};
@@ -30,7 +33,9 @@ use moka_common::error::{BuildError, InsertError, OutOfMemory};
 use moka_common::time::Instant;
 use moka_unsync::builder::CacheBuilder;
 use moka_unsync::cache::Cache;
+use moka_unsync::error::TimedInsertError;
 use std::alloc::Global;
+use std::time::Duration;
 
 /// A cache for one thread whose keys and values are bytes. It copies in what it is given, and copies out what it finds.
 ///
@@ -82,26 +87,52 @@ impl ByteCache {
         now: Instant,
     ) -> Result<Inserted, InsertError>
         ensures answer { IfOk result (λ inserted. inserted ≡ inserted_of (is_some (entry_at byte_keys.eq key.now self.new.cache.contents.entries))) }
-        ensures step { OnOk result (IsBytesInsert key.now value.now now self.old self.new) }
+        ensures step { OnOk result (IsBytesInsert key.now value.now None now self.old self.new) }
         ensures refused { OnErr result (IsBytesRefusal self.old self.new) }
         ensures error { IfErr result (λ error. error ≡ InsertError.OutOfMemory) }
     {
         let hash = self.cache.hash_of(Bytes { bytes: key });
-        self.insert_hashed(alloc, key, hash, value, now)
+        self.insert_hashed(alloc, key, hash, value, None, now)
     }
 
-    /// Puts a copy of the value at a copy of the key, as `insert` does, by the key's hash.
+    /// Puts a copy of the value at a copy of the key, as `insert` does, with its own time to live, in a cache that has one too. Without that the error is
+    /// `NoTimeToLive`.
+    pub fn insert_for(
+        &mut self,
+        alloc: Global,
+        key: &[u8],
+        value: &[u8],
+        time_to_live: Duration,
+        now: Instant,
+    ) -> Result<Inserted, TimedInsertError>
+        ensures answer { IfOk result (λ inserted. inserted ≡ inserted_of (is_some (entry_at byte_keys.eq key.now self.new.cache.contents.entries))) }
+        ensures step { OnOk result (IsSome self.old.cache.settings.policy.time_to_live
+            × IsBytesInsert key.now value.now (Some (as_nanos time_to_live)) now self.old self.new) }
+        ensures refused { IfErr result (λ error. IsTimedRefusal IsBytesRefusal error self.old.cache.settings.policy self.old self.new) }
+    {
+        if self.cache.policy().time_to_live().is_none() {
+            return Err(TimedInsertError::NoTimeToLive);
+        }
+        let hash = self.cache.hash_of(Bytes { bytes: key });
+        match self.insert_hashed(alloc, key, hash, value, Some(time_to_live), now) {
+            Ok(inserted) => Ok(inserted),
+            Err(_) => Err(TimedInsertError::OutOfMemory),
+        }
+    }
+
+    /// Puts a copy of the value at a copy of the key, as `insert` does, by the key's hash, with its own time to live if one is given and the cache has one.
     pub(crate) fn insert_hashed(
         &mut self,
         alloc: Global,
         key: &[u8],
         hash: u64,
         value: &[u8],
+        time_to_live: Option<Duration>,
         now: Instant,
     ) -> Result<Inserted, InsertError>
         requires { hash ≡ byte_keys.hash_of self.old.cache.settings.hash_state key.now }
         ensures answer { IfOk result (λ inserted. inserted ≡ inserted_of (is_some (entry_at byte_keys.eq key.now self.new.cache.contents.entries))) }
-        ensures step { OnOk result (IsBytesInsert key.now value.now now self.old self.new) }
+        ensures step { OnOk result (IsBytesInsert key.now value.now (option_map as_nanos time_to_live) now self.old self.new) }
         ensures refused { OnErr result (IsBytesRefusal self.old self.new) }
         ensures error { IfErr result (λ error. error ≡ InsertError.OutOfMemory) }
     {
@@ -110,7 +141,7 @@ impl ByteCache {
         self.leaving.inserted = Inserted::Stored;
         if let Err(refused) = self
             .cache
-            .insert_notifying(key, hash, value, now, &mut self.leaving)
+            .insert_notifying(key, hash, value, time_to_live, now, &mut self.leaving)
         {
             self.leaving.inserted = before;
             return Err(refused);
@@ -224,6 +255,17 @@ impl ByteCache {
     {
         self.walk = Walk::Ended;
         self.cache.invalidate_all_notifying(&mut self.leaving);
+    }
+
+    /// Removes all expired entries, as `Cache::remove_expired` does.
+    pub fn remove_expired(&mut self, now: Instant)
+        ensures step { self.new ≡ record self.old { cache = after_remove_expired byte_keys self.old.cache now; leaving = self.new.leaving; walk = Ended } }
+        ensures counts { self.new.leaving.statistics ≡ with_expiry byte_keys self.old.cache now self.old.leaving.statistics }
+        ensures removed { TellsWhatLeft queues Expired (λ e. is_expired self.old.cache.settings.policy now e ≡ true) self.old.cache.contents.entries
+            self.new.cache.contents.entries self.old.leaving.removed self.new.leaving.removed }
+    {
+        self.walk = Walk::Ended;
+        self.cache.remove_expired_notifying(now, &mut self.leaving);
     }
 
     /// Drains the entry that left first, if its key and value fit in the buffers, and returns their lengths. They are copied to the beginnings. If one

@@ -22,6 +22,8 @@ pub const ZERO_DURATION: u32 = 8;
 pub const REJECTED: u32 = 9;
 /// A share is above 100 percent: nothing was done.
 pub const SHARE_TOO_LARGE: u32 = 10;
+/// The cache has no time to live, so no entry can have its own: nothing was done.
+pub const NO_TIME_TO_LIVE: u32 = 11;
 
 /// The capacity or the duration of a cache that has none. No clock reaches it: as nanoseconds it is more than 584 years.
 pub const UNLIMITED: u64 = u64::MAX;

@@ -34,6 +34,7 @@ use crate::cache::ByteCache;
 use crate::constants::{CLOSED, OTHER_KIND};
 use crate::number_cache::NumberCache;
 use crate::statistics::Report;
+use moka_common::time::Instant;
 use raw_box::RawBox;
 use std::alloc::Global;
 use std::marker::Model;
@@ -48,7 +49,7 @@ pub enum AnyCache {
 }
 
 impl AnyCache {
-    ghost use Rattle.mini_moka_c.specs.Calls.{IsEmptied, count_of, statistics_of, walking, weight_of, window_of};
+    ghost use Rattle.mini_moka_c.specs.Calls.{IsEmptied, IsSwept, count_of, statistics_of, walking, weight_of, window_of};
 
     /// Removes all entries.
     pub(crate) fn invalidate_all(&mut self)
@@ -57,6 +58,16 @@ impl AnyCache {
         match self {
             AnyCache::Numbers(numbers) => numbers.invalidate_all(),
             AnyCache::Bytes(bytes) => bytes.invalidate_all(),
+        }
+    }
+
+    /// Removes all expired entries.
+    pub(crate) fn remove_expired(&mut self, now: Instant)
+        ensures { IsSwept now self.old self.new }
+    {
+        match self {
+            AnyCache::Numbers(numbers) => numbers.remove_expired(now),
+            AnyCache::Bytes(bytes) => bytes.remove_expired(now),
         }
     }
 

@@ -1,20 +1,23 @@
 //! A cache of numbers.
-ghost use Rattle.std.specs.Prelude.{◌≡◌, ⊤, [], IfErr, IfOk, is_some, None, OnErr, OnOk, option_map};
+ghost use Rattle.std.specs.Prelude.{◌≡◌, ⊤, [], IfErr, IfOk, is_some, IsSome, None, OnErr, OnOk, option_map, Some, true};
+ghost use Rattle.std.specs.Duration.{as_nanos};
 ghost use Rattle.std.specs.Map.Iter.{deref_pair};
 ghost use Rattle.moka_unsync.specs.Builder.{IsBuilt, refusal_of};
+ghost use Rattle.moka_unsync.specs.Cleanup.{is_expired};
 ghost use Rattle.moka_unsync.specs.Contents.{entry_at};
-ghost use Rattle.moka_unsync.specs.Invalidate.{after_invalidate_all};
+ghost use Rattle.moka_unsync.specs.Invalidate.{after_invalidate_all, after_remove_expired};
 ghost use Rattle.moka_unsync.specs.Lookup.{after_look, found_by_get, found_by_peek, is_contained};
 ghost use Rattle.moka_unsync_model.specs.Told.{TellsWhatLeft};
 ghost use Rattle.moka_unsync_model.specs.ToldCalls.{TellsLook};
-ghost use Rattle.moka_unsync_model.specs.declared.listener.Cause.TheVariants.{Explicit};
+ghost use Rattle.moka_unsync_model.specs.declared.listener.Cause.TheVariants.{Expired, Explicit};
 ghost use Rattle.mini_moka_c.specs.declared.steps.Walk.TheVariants.{AtStart, Ended};
+ghost use Rattle.mini_moka_c.specs.Calls.{IsTimedRefusal};
 ghost use Rattle.mini_moka_c.specs.Inserted.{inserted_of};
 ghost use Rattle.mini_moka_c.specs.NumberCalls.{IsNumberGet, IsNumberInsert, IsNumberInvalidation, IsNumberRefusal, IsNumberRemove};
 ghost use Rattle.mini_moka_c.specs.NumberKeys.{number_keys};
 ghost use Rattle.mini_moka_c.specs.NumberWalk.{met_after, next_pair, step_of, walk_after};
 ghost use Rattle.mini_moka_c.specs.Removed.{oldest, queues, without_oldest};
-ghost use Rattle.mini_moka_c.specs.Statistics.{no_statistics, with_clearing, with_cleanup};
+ghost use Rattle.mini_moka_c.specs.Statistics.{no_statistics, with_clearing, with_expiry, with_cleanup};
 
 use crate::inserted::Inserted;
 use crate::removed::{Leaving, Removed, RemovedQueue};
@@ -24,6 +27,8 @@ use moka_common::error::{BuildError, InsertError};
 use moka_common::time::Instant;
 use moka_unsync::builder::CacheBuilder;
 use moka_unsync::cache::Cache;
+use moka_unsync::error::TimedInsertError;
+use std::time::Duration;
 
 /// A cache for one thread whose keys and values are numbers. No look-up asks for memory.
 #[derive(Drop)]
@@ -63,25 +68,49 @@ impl NumberCache {
     /// Puts the value at the key, as `Cache::insert` does, and returns whether it was let in. If memory is refused, no entry changes and a walk goes on.
     pub fn insert(&mut self, key: u64, value: u64, now: Instant) -> Result<Inserted, InsertError>
         ensures answer { IfOk result (λ inserted. inserted ≡ inserted_of (is_some (entry_at number_keys.eq key self.new.cache.contents.entries))) }
-        ensures step { OnOk result (IsNumberInsert key value now self.old self.new) }
+        ensures step { OnOk result (IsNumberInsert key value None now self.old self.new) }
         ensures refused { OnErr result (IsNumberRefusal self.old self.new) }
         ensures error { IfErr result (λ error. error ≡ InsertError.OutOfMemory) }
     {
         let hash = self.cache.hash_of(&key);
-        self.insert_hashed(key, hash, value, now)
+        self.insert_hashed(key, hash, value, None, now)
     }
 
-    /// Puts the value at the key, as `insert` does, by the key's hash.
+    /// Puts the value at the key, as `insert` does, with its own time to live, in a cache that has one too. Without that the error is `NoTimeToLive`.
+    pub fn insert_for(
+        &mut self,
+        key: u64,
+        value: u64,
+        time_to_live: Duration,
+        now: Instant,
+    ) -> Result<Inserted, TimedInsertError>
+        ensures answer { IfOk result (λ inserted. inserted ≡ inserted_of (is_some (entry_at number_keys.eq key self.new.cache.contents.entries))) }
+        ensures step { OnOk result (IsSome self.old.cache.settings.policy.time_to_live
+            × IsNumberInsert key value (Some (as_nanos time_to_live)) now self.old self.new) }
+        ensures refused { IfErr result (λ error. IsTimedRefusal IsNumberRefusal error self.old.cache.settings.policy self.old self.new) }
+    {
+        if self.cache.policy().time_to_live().is_none() {
+            return Err(TimedInsertError::NoTimeToLive);
+        }
+        let hash = self.cache.hash_of(&key);
+        match self.insert_hashed(key, hash, value, Some(time_to_live), now) {
+            Ok(inserted) => Ok(inserted),
+            Err(_) => Err(TimedInsertError::OutOfMemory),
+        }
+    }
+
+    /// Puts the value at the key, as `insert` does, by the key's hash, with its own time to live if one is given and the cache has one.
     pub(crate) fn insert_hashed(
         &mut self,
         key: u64,
         hash: u64,
         value: u64,
+        time_to_live: Option<Duration>,
         now: Instant,
     ) -> Result<Inserted, InsertError>
         requires { hash ≡ number_keys.hash_of self.old.cache.settings.hash_state key }
         ensures answer { IfOk result (λ inserted. inserted ≡ inserted_of (is_some (entry_at number_keys.eq key self.new.cache.contents.entries))) }
-        ensures step { OnOk result (IsNumberInsert key value now self.old self.new) }
+        ensures step { OnOk result (IsNumberInsert key value (option_map as_nanos time_to_live) now self.old self.new) }
         ensures refused { OnErr result (IsNumberRefusal self.old self.new) }
         ensures error { IfErr result (λ error. error ≡ InsertError.OutOfMemory) }
     {
@@ -89,7 +118,7 @@ impl NumberCache {
         self.leaving.inserted = Inserted::Stored;
         if let Err(refused) = self
             .cache
-            .insert_notifying(key, hash, value, now, &mut self.leaving)
+            .insert_notifying(key, hash, value, time_to_live, now, &mut self.leaving)
         {
             self.leaving.inserted = before;
             return Err(refused);
@@ -172,6 +201,17 @@ impl NumberCache {
     {
         self.walk = Walk::Ended;
         self.cache.invalidate_all_notifying(&mut self.leaving);
+    }
+
+    /// Removes all expired entries, as `Cache::remove_expired` does.
+    pub fn remove_expired(&mut self, now: Instant)
+        ensures step { self.new ≡ record self.old { cache = after_remove_expired number_keys self.old.cache now; leaving = self.new.leaving; walk = Ended } }
+        ensures counts { self.new.leaving.statistics ≡ with_expiry number_keys self.old.cache now self.old.leaving.statistics }
+        ensures removed { TellsWhatLeft queues Expired (λ e. is_expired self.old.cache.settings.policy now e ≡ true) self.old.cache.contents.entries
+            self.new.cache.contents.entries self.old.leaving.removed self.new.leaving.removed }
+    {
+        self.walk = Walk::Ended;
+        self.cache.remove_expired_notifying(now, &mut self.leaving);
     }
 
     /// Drains the removed entry that left first.

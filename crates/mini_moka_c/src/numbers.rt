@@ -1,18 +1,20 @@
 // The calls of a cache of numbers. Each borrows the cache from its handle, and makes one call of it.
-ghost use Rattle.std.specs.Prelude.{◌≡◌, ◌≢◌, false, IfErr, IfOk};
+ghost use Rattle.std.specs.Prelude.{◌≡◌, ◌≢◌, false, IfErr, IfOk, None};
 ghost use Rattle.mini_moka_c.specs.Calls.{OnNumbers, OnOpen};
 ghost use Rattle.mini_moka_c.specs.Drain.{TellsRemoved, TellsRemovedOf};
 ghost use Rattle.mini_moka_c.specs.NumberCalls.{IsNumberInvalidation, TellsFound, TellsGet, TellsGotOrInserted, TellsInsert, TellsLook, TellsNumberWalk};
-ghost use Rattle.mini_moka_c.specs.NumberCalls.{TellsPeek, TellsRemove, TellsStep};
+ghost use Rattle.mini_moka_c.specs.NumberCalls.{TellsInsertFor, TellsPeek, TellsRemove, TellsStep};
 ghost use Rattle.mini_moka_c.specs.Opening.{IsNumbersKept, IsOpening, refusal_of, settings_fault};
 
-use crate::constants::{ABSENT, ALREADY_OPEN, CHANGED, DONE, OUT_OF_MEMORY};
+use crate::constants::{ABSENT, ALREADY_OPEN, CHANGED, DONE, NO_TIME_TO_LIVE, OUT_OF_MEMORY};
 use crate::handle::{AnyCache, Handle};
 use crate::removed::{Removed, number_of};
 use crate::settings::{NumberSettings, build_numbers, settings_fault};
 use crate::steps::NumberStep;
 use moka_common::time::Instant;
+use moka_unsync::error::TimedInsertError;
 use std::alloc::Global;
+use std::time::Duration;
 
 /// Opens a closed handle with a new cache of numbers. If a duration is 0, a share is above 100 or memory is refused it stays closed, and an open handle
 /// stays as it is: `ALREADY_OPEN`.
@@ -62,12 +64,35 @@ fn cache_of(alloc: Global, settings: &NumberSettings) -> Result<Box<AnyCache>, u
 /// Inserts the key and the value. If a new entry exceeds the capacity, the admission policy may reject it: `REJECTED`.
 #[unsafe(no_mangle)]
 pub extern "C" fn mini_moka_u64_insert(handle: &mut Handle, key: u64, value: u64, now: u64) -> u32
-    ensures { OnOpen handle.old.value result handle.new.value (OnNumbers result (TellsInsert key value now result)) }
+    ensures { OnOpen handle.old.value result handle.new.value (OnNumbers result (TellsInsert key value None now result)) }
 {
     match handle.numbers() {
         Ok(numbers) => match numbers.insert(key, value, Instant::from_nanos(now)) {
             Ok(inserted) => inserted.status(),
             Err(_) => OUT_OF_MEMORY,
+        },
+        Err(status) => status,
+    }
+}
+
+/// Inserts the key and the value, as `mini_moka_u64_insert` does, with its own time to live in nanoseconds. The entry expires after that, or after the
+/// cache's time to live if that is shorter. In a cache without one nothing is done: `NO_TIME_TO_LIVE`.
+#[unsafe(no_mangle)]
+pub extern "C" fn mini_moka_u64_insert_for(
+    handle: &mut Handle,
+    key: u64,
+    value: u64,
+    time_to_live: u64,
+    now: u64,
+) -> u32
+    ensures { OnOpen handle.old.value result handle.new.value (OnNumbers result (TellsInsertFor key value time_to_live now result)) }
+{
+    let own = Duration::from_nanos(time_to_live);
+    match handle.numbers() {
+        Ok(numbers) => match numbers.insert_for(key, value, own, Instant::from_nanos(now)) {
+            Ok(inserted) => inserted.status(),
+            Err(TimedInsertError::NoTimeToLive) => NO_TIME_TO_LIVE,
+            Err(TimedInsertError::OutOfMemory) => OUT_OF_MEMORY,
         },
         Err(status) => status,
     }
@@ -130,7 +155,7 @@ pub extern "C" fn mini_moka_u64_get_or_insert(
                 *value = known;
                 return DONE;
             }
-            match numbers.insert_hashed(key, hash, otherwise, now) {
+            match numbers.insert_hashed(key, hash, otherwise, None, now) {
                 Ok(_) => {
                     *value = otherwise;
                     DONE

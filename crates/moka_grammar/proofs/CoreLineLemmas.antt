@@ -9,7 +9,7 @@ use Rattle.moka_grammar.specs.declared.line.CoreLine.{CoreLine}
 use Rattle.moka_grammar.specs.declared.line.CoreRequest.{CoreRequest}
 use Rattle.moka_grammar.specs.declared.line.CoreRequest.TheVariants.{Insert, Get, ContainsKey, Invalidate, Remove, InvalidateAll, Push, Forget}
 use Rattle.moka_grammar.specs.declared.line.CoreRequest.TheVariants.{Begin, Turn, Rest, Sync, Iter, EntryCount, WeightedSize}
-use Rattle.moka_grammar.specs.Lines.{weight_words}
+use Rattle.moka_grammar.specs.Lines.{weight_words, WeightFits}
 use Rattle.moka_grammar.specs.CoreLines.{core_request_words, core_words, CoreRequestFits, CoreFits}
 use Rattle.moka_grammar.specs.Reading.{◌>>=◌, number_of, number_below, text_of, no_argument, u64_of, u32_of}
 use Rattle.moka_grammar.specs.ReadingLines.{weight_of}
@@ -20,7 +20,7 @@ use Rattle.moka_grammar.proofs.NumberLemmas.{number_of-decimal, number_of-found}
 use Rattle.moka_grammar.proofs.ArgumentLemmas.{chosen, number_below-found, number_below-decimal}
 use Rattle.moka_grammar.proofs.ArgumentLemmas.{text_of-found, text_of-text, u64_of-found, u32_of-found}
 use Rattle.moka_grammar.proofs.CallLemmas.{IsSpelled, named, given, alone}
-use Rattle.moka_grammar.proofs.WeightLemmas.{weight_of-found, weight_of-again, weight_words_are}
+use Rattle.moka_grammar.proofs.WeightLemmas.{last_weight-found, last_weight-again, weight_words_are}
 use Rattle.moka_grammar.proofs.WordLemmas.{IsWord, IsWord-decimal, IsWord-text, IsWord-name}
 
 -- ---- a caller and a key
@@ -74,13 +74,13 @@ module _ (options : CacheOptions) where
 
   -- an insert whose words were read is spelled so
   insert_read : (caller key text : List ℕ) (behind : List (List ℕ)) (c k : ℕ) (t : List ℕ) (w : Option ℕ) (r : CoreRequest (List ℕ))
-      → number_below (2 ^ 32) caller ≡ Some c → number_of key ≡ Some k → text_of text ≡ Some t → weight_of options behind ≡ Some w
-      → Insert c k t w ≡ r → IsRequest (codes "insert") (caller ∷ key ∷ text ∷ behind) r
-  insert_read caller key text behind c k t w r caller_is key_is text_is weight_is is =
+      → number_below (2 ^ 32) caller ≡ Some c → number_of key ≡ Some k → text_of text ≡ Some t
+      → (behind ≡ weight_words w) × WeightFits options.weighed w → Insert c k t w ≡ r
+      → IsRequest (codes "insert") (caller ∷ key ∷ text ∷ behind) r
+  insert_read caller key text behind c k t w r caller_is key_is text_is weights is =
       let callers = number_below-found (2 ^ 32) caller c caller_is in
       let keys = number_of-found key k key_is in
       let texts = text_of-found text t text_is in
-      let weights = weight_of-found options behind w weight_is in
       subst (IsRequest (codes "insert") (caller ∷ key ∷ text ∷ behind)) is
       (insert_spelled caller key text behind c k t w callers.0 keys.0 texts.0 weights.0, (callers.1, keys.1, texts.1, weights.1))
 
@@ -93,12 +93,16 @@ module _ (options : CacheOptions) where
   insert_of-found (caller ∷ key ∷ []) r e = absurd cc
   insert_of-found (caller ∷ key ∷ text ∷ behind) r e =
       let (c, caller_is, others) = bind_some (number_below (2 ^ 32) caller)
-      (λ c. number_of key >>= λ k. weight_of options behind >>= λ w. text_of text >>= λ t. Some (Insert c k t w)) r e in
+      (λ c. number_of key >>= λ k. weight_of options.weighed behind >>= λ w. no_argument w.1 >>= λ none. text_of text
+      >>= λ t. Some (Insert c k t w.0)) r e in
       let (k, key_is, more) = bind_some (number_of key)
-      (λ k. weight_of options behind >>= λ w. text_of text >>= λ t. Some (Insert c k t w)) r others in
-      let (w, weight_is, rest) = bind_some (weight_of options behind) (λ w. text_of text >>= λ t. Some (Insert c k t w)) r more in
-      let (t, text_is, shown) = bind_some (text_of text) (λ t. Some (Insert c k t w)) r rest in
-      insert_read caller key text behind c k t w r caller_is key_is text_is weight_is (same_Some (Insert c k t w) r shown)
+      (λ k. weight_of options.weighed behind >>= λ w. no_argument w.1 >>= λ none. text_of text >>= λ t. Some (Insert c k t w.0)) r others in
+      let (w, weight_is, last) = bind_some (weight_of options.weighed behind)
+      (λ w. no_argument w.1 >>= λ none. text_of text >>= λ t. Some (Insert c k t w.0)) r more in
+      let (none, none_is, rest) = bind_some (no_argument w.1) (λ none. text_of text >>= λ t. Some (Insert c k t w.0)) r last in
+      let (t, text_is, shown) = bind_some (text_of text) (λ t. Some (Insert c k t w.0)) r rest in
+      let weights = last_weight-found options.weighed behind w none weight_is none_is in
+      insert_read caller key text behind c k t w.0 r caller_is key_is text_is weights (same_Some (Insert c k t w.0) r shown)
 
   -- a request with a caller alone is spelled by its name and the caller
   called : (call name : List ℕ) (arguments : List (List ℕ)) (make : ℕ → CoreRequest (List ℕ)) (r : CoreRequest (List ℕ))
@@ -194,7 +198,7 @@ module _ (options : CacheOptions) where
     IsWord-name (codes "insert") refl,
     (
       IsWord-decimal caller (omega (arith, fits.0)),
-      (IsWord-decimal key fits.1, (IsWord-text text fits.2, weight_words_are options weight fits.3)),
+      (IsWord-decimal key fits.1, (IsWord-text text fits.2, weight_words_are options.weighed weight fits.3)),
     ),
   )
   request_words_are (Get caller key) fits =
@@ -241,7 +245,7 @@ module _ (options : CacheOptions) where
         number_of-decimal n small,
         number_below-decimal (2 ^ 32) caller fits.0 (omega (arith, fits.0)),
         number_of-decimal key fits.1,
-        weight_of-again options weight fits.3,
+        last_weight-again options.weighed weight fits.3,
         text_of-text text fits.2,
       ) refl
   request_again n (Get caller key) small fits = rw (number_of-decimal n small, caller_and_key_of-again caller key fits.0 fits.1) refl

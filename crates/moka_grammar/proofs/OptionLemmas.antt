@@ -299,3 +299,23 @@ options_words_are options fits =
     (are_words-append _ _ (flag_words_are (codes "adaptive") (IsWord-name (codes "adaptive") refl) options.adaptive)
     (option_words_are (codes "tickets") decimal NumberFits number_of IsWord-decimal
     (IsWord-name (codes "tickets") refl) options.tickets fits.3)))))
+
+-- ---- a time to live behind what else a line has
+
+-- what is read as a time to live with nothing behind it is spelled so
+pub last_live-found : (words : List (List ℕ)) (live : Option Span × List (List ℕ)) (nothing : Unit {0})
+    → option_of (codes "live") span_of words ≡ Some live → no_argument live.1 ≡ Some nothing
+    → (words ≡ option_words (codes "live") span_word live.0) × IfSome live.0 SpanFits
+last_live-found words live nothing e none =
+    let found = option_of-found (codes "live") span_word SpanFits span_of span_of-found words live.0 live.1 e in
+    let spelled = option_words (codes "live") span_word live.0 in
+    (found.0 ∙ ap (λ l. spelled ++ l) (no_argument-found live.1 nothing none) ∙ append-nil spelled, found.1)
+
+-- the words of a time to live with nothing behind it are read as that
+pub last_live-again : (live : Option Span) → IfSome live SpanFits
+    → option_of (codes "live") span_of (option_words (codes "live") span_word live) ≡ Some (live, [])
+last_live-again live fits = rw append-nil at (option_again (codes "live") span_word SpanFits span_of span_again live [] fits tt)
+
+-- the words of a time to live are words
+pub live_words_are : (live : Option Span) → IfSome live SpanFits → AllByRecursion IsWord (option_words (codes "live") span_word live)
+live_words_are live fits = option_words_are (codes "live") span_word SpanFits span_of IsWord-span (IsWord-name (codes "live") refl) live fits

@@ -1,6 +1,6 @@
 -- The words of lines of calls to a cache are read as those lines.
-use Rattle.std.proofs.Common.{◌≡◌, ℕ, ◌<◌, ◌^◌, List, [], ◌∷◌, codes, true, cond, Some, None, refl, ap, ◌∙◌, subst, inl, inr}
-use Rattle.std.specs.Prelude.{IsTrue}
+use Rattle.std.proofs.Common.{◌≡◌, ℕ, ◌<◌, ◌^◌, List, [], ◌∷◌, ◌++◌, codes, true, cond, Option, Some, None, refl, ap, ◌∙◌, subst, inl, inr}
+use Rattle.std.specs.Prelude.{IfSome, IsTrue}
 use Rattle.std.specs.Fmt.{decimal}
 use Rattle.std.specs.List.{AllByRecursion}
 use Rattle.std.specs.Str.{bytes_eq}
@@ -11,8 +11,11 @@ use Rattle.moka_grammar.specs.declared.line.Line.{Line}
 use Rattle.moka_grammar.specs.declared.line.Request.{Request}
 use Rattle.moka_grammar.specs.declared.line.Request.TheVariants.{Insert, Get, ContainsKey, Invalidate, Remove, InvalidateAll}
 use Rattle.moka_grammar.specs.declared.line.Request.TheVariants.{InvalidateIf, Sync, Iter, EntryCount, WeightedSize, Policy}
-use Rattle.moka_grammar.specs.Lines.{allows, request_words, line_words, RequestFits, LineFits}
+use Rattle.moka_grammar.specs.declared.line.Span.{Span}
+use Rattle.moka_grammar.specs.Options.{option_words, span_word, SpanFits}
+use Rattle.moka_grammar.specs.Lines.{allows, weight_words, request_words, line_words, WeightFits, RequestFits, LineFits}
 use Rattle.moka_grammar.specs.Reading.{◌>>=◌, number_of, text_of, no_argument, u64_of}
+use Rattle.moka_grammar.specs.ReadingOptions.{span_of, option_of}
 use Rattle.moka_grammar.specs.ReadingLines.{weight_of, insert_of, invalidate_if_of, bare_of, request_of, line_from_words}
 use Rattle.moka_grammar.proofs.CutLemmas.{bind_some}
 use Rattle.moka_grammar.proofs.LineLemmas.{IsReading}
@@ -20,7 +23,12 @@ use Rattle.moka_grammar.proofs.NumberLemmas.{number_of-decimal, number_of-found}
 use Rattle.moka_grammar.proofs.ArgumentLemmas.{chosen, text_of-found, text_of-text, u64_of-found}
 use Rattle.moka_grammar.proofs.CallLemmas.{IsSpelled, named, given, alone}
 use Rattle.moka_grammar.proofs.WeightLemmas.{weight_of-found, weight_of-again, weight_words_are}
-use Rattle.moka_grammar.proofs.WordLemmas.{IsWord, IsWord-decimal, IsWord-text, IsWord-name}
+use Rattle.moka_grammar.proofs.OptionLemmas.{last_live-found, last_live-again, live_words_are}
+use Rattle.moka_grammar.proofs.WordLemmas.{IsWord, IsWord-decimal, IsWord-text, IsWord-name, are_words-append}
+
+-- the words behind the text of an insert
+abbrev end_words : Option ℕ → Option Span → List (List ℕ)
+end_words weight live = weight_words weight ++ option_words (codes "live") span_word live
 
 module _ (options : CacheOptions) where
   -- ---- what is read as a request is spelled so
@@ -29,6 +37,15 @@ module _ (options : CacheOptions) where
   abbrev IsRequest : List ℕ → List (List ℕ) → Request (List ℕ) → Type 0
   IsRequest = IsSpelled request_words (RequestFits options.weighed)
 
+  -- what is read behind the text of an insert is spelled so
+  end_found : (behind : List (List ℕ)) (weight : Option ℕ × List (List ℕ)) (live : Option Span × List (List ℕ)) (none : Unit {0})
+      → weight_of options.weighed behind ≡ Some weight → option_of (codes "live") span_of weight.1 ≡ Some live → no_argument live.1 ≡ Some none
+      → (behind ≡ end_words weight.0 live.0) × WeightFits options.weighed weight.0 × IfSome live.0 SpanFits
+  end_found behind weight live none weight_is live_is none_is =
+      let weights = weight_of-found options.weighed behind weight.0 weight.1 weight_is in
+      let lives = last_live-found weight.1 live none live_is none_is in
+      (weights.0 ∙ ap (λ l. weight_words weight.0 ++ l) lives.0, weights.1, lives.1)
+
   -- what is read as an insert is spelled so
   insert_of-found : (arguments : List (List ℕ)) (r : Request (List ℕ)) → insert_of options arguments ≡ Some r
       → IsRequest (codes "insert") arguments r
@@ -36,18 +53,24 @@ module _ (options : CacheOptions) where
   insert_of-found [] r e = absurd cc
   insert_of-found (key ∷ []) r e = absurd cc
   insert_of-found (key ∷ text ∷ behind) r e =
-      let (k, key_is, more) = bind_some (number_of key)
-      (λ k. weight_of options behind >>= λ w. text_of text >>= λ t. Some (Insert k t w)) r e in
-      let (w, weight_is, rest) = bind_some (weight_of options behind) (λ w. text_of text >>= λ t. Some (Insert k t w)) r more in
-      let (t, text_is, shown) = bind_some (text_of text) (λ t. Some (Insert k t w)) r rest in
+      let (k, key_is, others) = bind_some (number_of key) (λ k. weight_of options.weighed behind >>= λ w.
+      option_of (codes "live") span_of w.1 >>= λ live. no_argument live.1 >>= λ none. text_of text
+      >>= λ t. Some (Insert k t w.0 live.0)) r e in
+      let (w, weight_is, more) = bind_some (weight_of options.weighed behind) (λ w.
+      option_of (codes "live") span_of w.1 >>= λ live. no_argument live.1 >>= λ none. text_of text
+      >>= λ t. Some (Insert k t w.0 live.0)) r others in
+      let (live, live_is, last) = bind_some (option_of (codes "live") span_of w.1)
+      (λ live. no_argument live.1 >>= λ none. text_of text >>= λ t. Some (Insert k t w.0 live.0)) r more in
+      let (none, none_is, rest) = bind_some (no_argument live.1) (λ none. text_of text >>= λ t. Some (Insert k t w.0 live.0)) r last in
+      let (t, text_is, shown) = bind_some (text_of text) (λ t. Some (Insert k t w.0 live.0)) r rest in
       let keys = number_of-found key k key_is in
-      let weights = weight_of-found options behind w weight_is in
+      let ends = end_found behind w live none weight_is live_is none_is in
       let texts = text_of-found text t text_is in
       subst (IsRequest (codes "insert") (key ∷ text ∷ behind)) (same_Some _ _ shown) (
         ap (λ l. codes "insert" ∷ l ∷ text ∷ behind) keys.0
             ∙ ap (λ l. codes "insert" ∷ decimal k ∷ l ∷ behind) texts.0
-            ∙ ap (λ l. codes "insert" ∷ decimal k ∷ t ∷ l) weights.0,
-        (keys.1, texts.1, weights.1),
+            ∙ ap (λ l. codes "insert" ∷ decimal k ∷ t ∷ l) ends.0,
+        (keys.1, texts.1, ends.1, ends.2),
       )
 
   -- a request with a key alone is spelled by its name and the key
@@ -127,10 +150,9 @@ module _ (options : CacheOptions) where
 
   -- the words of a request are words
   request_words_are : (r : Request (List ℕ)) → RequestFits options.weighed r → AllByRecursion IsWord (request_words r)
-  request_words_are (Insert key text weight) fits = (
-    IsWord-name (codes "insert") refl,
-    (IsWord-decimal key fits.0, (IsWord-text text fits.1, weight_words_are options weight fits.2)),
-  )
+  request_words_are (Insert key text weight live) fits =
+      let ends = are_words-append _ _ (weight_words_are options.weighed weight fits.2) (live_words_are live fits.3) in
+      (IsWord-name (codes "insert") refl, (IsWord-decimal key fits.0, (IsWord-text text fits.1, ends)))
   request_words_are (Get key) fits = (IsWord-name (codes "get") refl, (IsWord-decimal key fits, tt))
   request_words_are (ContainsKey key) fits = (IsWord-name (codes "has") refl, (IsWord-decimal key fits, tt))
   request_words_are (Invalidate key) fits = (IsWord-name (codes "invalidate") refl, (IsWord-decimal key fits, tt))
@@ -166,11 +188,12 @@ module _ (header : CacheHeader) where
   line_again : (n : ℕ) (r : Request (List ℕ)) → n < 2 ^ 64 → IsTrue (allows header.mode r) → RequestFits header.options.weighed r
       → line_from_words header (decimal n ∷ request_words r) ≡ Some (record { now = n; request = r })
   unfolding line_from_words request_of insert_of invalidate_if_of bare_of u64_of no_argument
-  line_again n (Insert key text weight) small allowed fits =
+  line_again n (Insert key text weight live) small allowed fits =
       rw (
         number_of-decimal n small,
         number_of-decimal key fits.0,
-        weight_of-again header.options weight fits.2,
+        weight_of-again header.options.weighed weight (option_words (codes "live") span_word live) fits.2,
+        last_live-again live fits.3,
         text_of-text text fits.1,
         allowed,
       ) refl

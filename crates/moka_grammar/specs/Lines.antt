@@ -1,7 +1,8 @@
 -- What a contract sees of the lines of scripts of calls to a cache: a moment and a request each.
-use Rattle.std.specs.Prelude.{ℕ, ◌^◌, ◌<◌, Bool, true, false, List, [], ◌∷◌, codes, Option, Some, None, IsTrue}
+use Rattle.std.specs.Prelude.{ℕ, ◌^◌, ◌<◌, Bool, true, false, List, [], ◌∷◌, ◌++◌, codes, Option, Some, None, IfSome, IsTrue}
 use Rattle.std.specs.Fmt.{decimal}
 use Rattle.moka_grammar.specs.Text.{IsText}
+use Rattle.moka_grammar.specs.Options.{option_words, span_word, SpanFits}
 use Rattle.moka_grammar.specs.declared.line.CacheHeader.{CacheHeader}
 use Rattle.moka_grammar.specs.declared.line.Mode.{Mode}
 use Rattle.moka_grammar.specs.declared.line.Mode.TheVariants as mode
@@ -17,7 +18,8 @@ weight_words (Some weight) = decimal weight ∷ []
 
 -- the words of a request: the name of the call, and what it is given
 abbrev pub request_words : Request (List ℕ) → List (List ℕ)
-request_words (Insert key text weight) = codes "insert" ∷ decimal key ∷ text ∷ weight_words weight
+request_words (Insert key text weight live) =
+    codes "insert" ∷ decimal key ∷ text ∷ (weight_words weight ++ option_words (codes "live") span_word live)
 request_words (Get key) = codes "get" ∷ decimal key ∷ []
 request_words (ContainsKey key) = codes "has" ∷ decimal key ∷ []
 request_words (Invalidate key) = codes "invalidate" ∷ decimal key ∷ []
@@ -36,10 +38,12 @@ line_words line = decimal line.now ∷ request_words line.request
 
 -- whether the request is one of a script of this mode
 abbrev pub allows : {T : Type 0} → Mode → Request T → Bool
+allows mode.Recorded (Insert key text weight (Some live)) = false
 allows mode.Recorded (InvalidateIf text) = false
 allows mode.Recorded Iter = false
 allows mode.Recorded Policy = false
 allows mode.Recorded request = true
+allows mode.Sync (Insert key text weight (Some live)) = false
 allows mode.Sync (InvalidateIf text) = false
 allows mode.Sync request = true
 allows mode.Unsync Sync = false
@@ -54,7 +58,7 @@ WeightFits false None = Unit {0}
 
 -- the request holds what can be spelled, where the script is weighed or not
 abbrev pub RequestFits : Bool → Request (List ℕ) → Type 0
-RequestFits weighed (Insert key text weight) = (key < 2 ^ 64) × IsText text × WeightFits weighed weight
+RequestFits weighed (Insert key text weight live) = (key < 2 ^ 64) × IsText text × WeightFits weighed weight × IfSome live SpanFits
 RequestFits weighed (Get key) = key < 2 ^ 64
 RequestFits weighed (ContainsKey key) = key < 2 ^ 64
 RequestFits weighed (Invalidate key) = key < 2 ^ 64

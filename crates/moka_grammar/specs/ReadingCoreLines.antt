@@ -22,9 +22,10 @@ unfoldable pub insert_of : CacheOptions → List (List ℕ) → Option (CoreRequ
 insert_of options (caller ∷ key ∷ text ∷ behind) = do
   c ← number_below (2 ^ 32) caller
   k ← number_of key
-  w ← weight_of options behind
+  weight ← weight_of options.weighed behind
+  nothing ← no_argument weight.1
   t ← text_of text
-  Some (Insert c k t w)
+  Some (Insert c k t weight.0)
 insert_of options _ = None
 
 -- the request of this name, which is given nothing

@@ -1,11 +1,11 @@
 -- What the words of a line are read as. No public clause cites this module.
-use Rattle.std.specs.Prelude.{ℕ, ◌^◌, List, [], ◌∷◌, codes, not, Option, Some, None, if◌then◌else◌}
+use Rattle.std.specs.Prelude.{ℕ, ◌^◌, Bool, true, false, List, [], ◌∷◌, codes, not, Option, Some, None, if◌then◌else◌}
 use Rattle.std.specs.Str.{bytes_eq}
 use Rattle.moka_common.specs.declared.constants.TheConstants.{DEPTHS}
 use Rattle.moka_grammar.specs.Lines.{allows}
 use Rattle.moka_grammar.specs.Options.{can_have}
 use Rattle.moka_grammar.specs.Reading.{◌>>=◌, number_of, number_below, text_of, no_argument, u64_of, u32_of}
-use Rattle.moka_grammar.specs.ReadingOptions.{options_of}
+use Rattle.moka_grammar.specs.ReadingOptions.{span_of, option_of, options_of}
 use Rattle.moka_grammar.specs.declared.line.CacheHeader.{CacheHeader}
 use Rattle.moka_grammar.specs.declared.line.CacheOptions.{CacheOptions}
 use Rattle.moka_grammar.specs.declared.line.Header.{Header}
@@ -51,23 +51,23 @@ header_from_words [] = None
 
 -- ---- lines of calls to a cache
 
--- the weight that is left of an insert's arguments, where inserts have one
-unfoldable pub weight_of : CacheOptions → List (List ℕ) → Option (Option ℕ)
-weight_of options arguments =
-    if options.weighed then (do
-      weight ← u32_of arguments
-      Some (Some weight))
-    else (do
-      nothing ← no_argument arguments
-      Some None)
+-- the weight in front of these words, where a script is weighed, and the words that are left
+unfoldable pub weight_of : Bool → List (List ℕ) → Option (Option ℕ × List (List ℕ))
+weight_of false words = Some (None, words)
+weight_of true [] = None
+weight_of true (word ∷ words) = do
+  weight ← number_below (2 ^ 32) word
+  Some (Some weight, words)
 
 -- what an insert is given
 unfoldable pub insert_of : CacheOptions → List (List ℕ) → Option (Request (List ℕ))
 insert_of options (key ∷ text ∷ behind) = do
   k ← number_of key
-  w ← weight_of options behind
+  weight ← weight_of options.weighed behind
+  live ← option_of (codes "live") span_of weight.1
+  nothing ← no_argument live.1
   t ← text_of text
-  Some (Insert k t w)
+  Some (Insert k t weight.0 live.0)
 insert_of options _ = None
 
 -- the only argument, a text

@@ -43,6 +43,7 @@ impl Mode {
         ensures { result ≡ allows self request.now }
     {
         match (self, request) {
+            (Mode::Recorded | Mode::Sync, Request::Insert { live: Some(_), .. }) => false,
             (Mode::Recorded, Request::InvalidateIf { .. } | Request::Iter | Request::Policy) =>
                 false,
             (Mode::Sync, Request::InvalidateIf { .. }) => false,
@@ -103,11 +104,12 @@ pub struct CacheOptions {
 /// A request to a cache. `T` is how texts are held, so that a contract sees a request without an allocator.
 #[derive(Drop)]
 pub enum Request<T = Text> {
-    /// Stores the text. The weight is there exactly if the script is weighed.
+    /// Stores the text. The weight is there exactly if the script is weighed, and only the cache for one thread takes a time to live of the entry's own.
     Insert {
         key: u64,
         text: T,
         weight: Option<u32>,
+        live: Option<Span>,
     },
     Get {
         key: u64,

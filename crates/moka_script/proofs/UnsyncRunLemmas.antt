@@ -1,7 +1,8 @@
 -- Replies of a script's cache come one after another, and its weighers answer what its lines say.
 use Rattle.std.proofs.Common.{◌≡◌, ℕ, Bool, false, true, if◌then◌else◌, List, [], ◌∷◌, ◌++◌, map, Option, Some}
-use Rattle.std.proofs.Common.{None, Result, Ok, Err, OnOk, IfOk, refl, sym, ap, ◌∙◌, subst}
-use Rattle.std.specs.Prelude.{IsTrue}
+use Rattle.std.proofs.Common.{None, Result, Ok, Err, OnOk, IfOk, refl, sym, ap, ◌∙◌, subst, inl, inr}
+use Rattle.std.proofs.lemmas.Bool.{false≢true}
+use Rattle.std.specs.Prelude.{IsSome, IsTrue}
 use Rattle.std.specs.Borrow.{Bor}
 use Rattle.std.specs.List.{AllByRecursion}
 use Rattle.moka_common.specs.Policy.{Policy as Limits}
@@ -18,14 +19,15 @@ use Rattle.moka_grammar.specs.Lines.{allows, WeightFits, RequestFits, LineFits}
 use Rattle.moka_unsync.specs.declared.entry.Entry.{Entry}
 use Rattle.moka_unsync.specs.Builder.{share_fault}
 use Rattle.moka_unsync.specs.CacheState.{new_cache}
-use Rattle.moka_unsync.specs.Insert.{IsInserted}
+use Rattle.moka_unsync.specs.Insert.{IsInserted, IsRefused}
 use Rattle.moka_unsync.specs.Invalidate.{AnswersInTurn}
 use Rattle.moka_unsync.specs.Shares.{adaptive, default_shares}
-use Rattle.moka_script.specs.Reply.{Reply, Ready, reply_line}
+use Rattle.moka_unsync.specs.Step as machine
+use Rattle.moka_script.specs.Reply.{Reply, Ready, Done, OutOfMemory, NoTimeToLive, reply_line}
 use Rattle.moka_script.specs.ScriptKeys.{script_keys}
 use Rattle.moka_script.specs.ScriptWeighers.{AnswersLine, AnswersRequest, AnswersStored}
 use Rattle.moka_script.specs.Stored.{stored_text, stored_weighs}
-use Rattle.moka_script.specs.UnsyncRun.{ScriptCache, IsAnswered, AreUnsyncReplies, WeigherOf, HasLimits, shares_of}
+use Rattle.moka_script.specs.UnsyncRun.{ScriptCache, TellsStep, TellsIfTimed, IsAnswered, AreUnsyncReplies, WeigherOf, HasLimits, shares_of}
 use Rattle.moka_script.specs.UnsyncRun.{AreRepliesUnder, options_fault, AreUnsyncReplyLines}
 use Rattle.moka_script.specs.declared.stored.Stored.{Stored}
 
@@ -67,10 +69,10 @@ module _ {P K V : Type 0} (calls : P → Bor K → Bor V → Bool → P → Type
 
 -- where a weigher answers what is stored, an insert is one of the script's machine
 pub stored_insert : {W : Type 0} (weighs : W → ℕ → Stored (List ℕ) → ℕ → W → Type 0) (old new : ScriptCache W) (key : ℕ)
-    (value : Stored (List ℕ)) (now : ℕ)
-    → AnswersStored weighs key value → IsInserted script_keys weighs old key value now new
-    → IsInserted script_keys stored_weighs old key value now new
-stored_insert weighs old new key value now answers inserted = record {
+    (value : Stored (List ℕ)) (own : Option ℕ) (now : ℕ)
+    → AnswersStored weighs key value → IsInserted script_keys weighs old key value own now new
+    → IsInserted script_keys stored_weighs old key value own now new
+stored_insert weighs old new key value own now answers inserted = record {
   weight = inserted.weight;
   weigher = inserted.weigher;
   refused = inserted.refused;
@@ -82,11 +84,31 @@ stored_insert weighs old new key value now answers inserted = record {
   step = inserted.step;
 }
 
+module _ {W : Type 0} (old new : ScriptCache W) (key : ℕ) (value : Stored (List ℕ)) (own : Option ℕ) (now : ℕ) where
+  -- an insert that was made is told so
+  pub insert_made : (weighs : W → ℕ → Stored (List ℕ) → ℕ → W → Type 0) → AnswersStored weighs key value
+      → IsInserted script_keys weighs old key value own now new → TellsStep old (machine.Insert key value own now) Done new
+  insert_made weighs answers inserted = (machine.Done, inl (refl, stored_insert weighs old new key value own now answers inserted), refl)
+
+  -- one that memory refused is told so
+  pub insert_refused : IsRefused old new → TellsStep old (machine.Insert key value own now) OutOfMemory new
+  insert_refused refused = (machine.OutOfMemory, inr (refl, refused), refl)
+
+module _ {W D : Type 0} (old new : ScriptCache W) (request : machine.Request ℕ (Stored (List ℕ))) (reply : Reply) where
+  -- in a cache with a time to live a step that is told is told
+  pub tells_timed : (live : Option D) → IsSome live → TellsStep old request reply new → TellsIfTimed live old request reply new
+  tells_timed (Some live) is step = step
+  tells_timed None is step = absurd (false≢true is)
+
+  -- in one without it the refusal is
+  pub tells_untimed : (live : Option D) → live ≡ None → reply ≡ NoTimeToLive → new ≡ old → TellsIfTimed live old request reply new
+  tells_untimed live none told same = rw none (told, same)
+
 module _ {W : Type 0} (weighs : W → ℕ → Stored (List ℕ) → ℕ → W → Type 0) where
   -- a weigher that answers what is stored does so on a request
   stored_request : ((key : ℕ) (value : Stored (List ℕ)) → AnswersStored weighs key value) → (request : Request (List ℕ))
       → AnswersRequest weighs request
-  stored_request answers (Insert key text weight) = answers key (stored_text text weight)
+  stored_request answers (Insert key text weight live) = answers key (stored_text text weight)
   stored_request answers (Get key) = tt
   stored_request answers (ContainsKey key) = tt
   stored_request answers (Invalidate key) = tt
@@ -117,7 +139,7 @@ module _ {W : Type 0} (weighs : W → ℕ → Stored (List ℕ) → ℕ → W �
 
     -- it does so on a request
     one_request : (request : Request (List ℕ)) → RequestFits false request → AnswersRequest weighs request
-    one_request (Insert key text weight) fits = one_stored key text weight fits.2
+    one_request (Insert key text weight live) fits = one_stored key text weight fits.2
     one_request (Get key) fits = tt
     one_request (ContainsKey key) fits = tt
     one_request (Invalidate key) fits = tt

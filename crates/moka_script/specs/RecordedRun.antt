@@ -20,9 +20,9 @@ use Rattle.moka_script.specs.Reply.{Reply, Done, Found, Truth, Number, OutOfMemo
 use Rattle.moka_script.specs.ScriptKeys.{script_keys}
 use Rattle.moka_script.specs.Stored.{stored_text}
 
--- the call that a request makes at a moment, if it is one of a record's
+-- the call that a request makes at a moment, if it is one of a record's; its inserts have no time to live of their own
 abbrev pub call_at : ℕ → Request (List ℕ) → Option (Call ℕ (Stored (List ℕ)))
-call_at now (Insert key text weight) = Some (call.Insert key (stored_text text weight) now)
+call_at now (Insert key text weight live) = Some (call.Insert key (stored_text text weight) now)
 call_at now (Get key) = Some (call.Get key now)
 call_at now (ContainsKey key) = Some (call.Contains key now)
 call_at now (Invalidate key) = Some (call.Invalidate key now)

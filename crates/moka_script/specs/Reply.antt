@@ -22,6 +22,7 @@ pub data Reply : Type 0 where
   Limits : Policy → Reply
   OutOfMemory : Reply
   TicketsUsedUp : Reply
+  NoTimeToLive : Reply
   Discarded : Reply
   At : Phase → Reply
   NotPossible : Reply
@@ -86,6 +87,7 @@ reply_words (Pairs pairs) = pairs_words pairs
 reply_words (Limits policy) = policy_words policy
 reply_words OutOfMemory = codes "refused memory"
 reply_words TicketsUsedUp = codes "refused tickets"
+reply_words NoTimeToLive = codes "refused time-to-live"
 reply_words Discarded = codes "discarded"
 reply_words (At phase) = codes "at " ++ phase_word phase
 reply_words NotPossible = codes "not possible"

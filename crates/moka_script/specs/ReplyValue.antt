@@ -4,7 +4,7 @@ use Rattle.std.specs.Borrow.{Bor}
 use Rattle.moka_script.specs.declared.reply.ReplyValue.{ReplyValue}
 use Rattle.moka_script.specs.declared.reply.ReplyValue.TheVariants as value
 use Rattle.moka_script.specs.Reply.{Reply, Ready, Refused, Done, Found, Truth, Number, Pairs, Limits}
-use Rattle.moka_script.specs.Reply.{OutOfMemory, TicketsUsedUp, Discarded, At, NotPossible}
+use Rattle.moka_script.specs.Reply.{OutOfMemory, TicketsUsedUp, NoTimeToLive, Discarded, At, NotPossible}
 
 -- the pairs of keys and texts, whatever lends the texts
 abbrev pub pairs_of : List (ℕ × Bor (List ℕ)) → List (ℕ × List ℕ)
@@ -22,6 +22,7 @@ reply_of (value.Pairs pairs) = Pairs (pairs_of pairs.now)
 reply_of (value.Limits policy) = Limits policy.now
 reply_of value.OutOfMemory = OutOfMemory
 reply_of value.TicketsUsedUp = TicketsUsedUp
+reply_of value.NoTimeToLive = NoTimeToLive
 reply_of value.Discarded = Discarded
 reply_of (value.At phase) = At phase
 reply_of value.NotPossible = NotPossible

@@ -13,7 +13,7 @@ module _ {W : Type 0} (weighs : W → ℕ → Stored (List ℕ) → ℕ → W �
 
   -- it does so for what the request stores
   abbrev pub AnswersRequest : Request (List ℕ) → Type 0
-  AnswersRequest (Insert key text weight) = AnswersStored key (stored_text text weight)
+  AnswersRequest (Insert key text weight live) = AnswersStored key (stored_text text weight)
   AnswersRequest request = Unit {0}
 
   -- it does so for what the line stores

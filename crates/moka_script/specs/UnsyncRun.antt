@@ -7,6 +7,7 @@ use Rattle.moka_common.specs.declared.weigh.UnitWeight.{UnitWeight}
 use Rattle.moka_grammar.specs.declared.line.CacheOptions.{CacheOptions}
 use Rattle.moka_grammar.specs.declared.line.Line.{Line}
 use Rattle.moka_grammar.specs.declared.line.Request.{Request}
+use Rattle.moka_grammar.specs.declared.line.Span.{Span}
 use Rattle.moka_grammar.specs.declared.line.Request.TheVariants.{Insert, Get, ContainsKey, Invalidate, Remove, InvalidateAll, InvalidateIf}
 use Rattle.moka_grammar.specs.declared.line.Request.TheVariants.{Sync, Iter, EntryCount, WeightedSize, Policy as GetPolicy}
 use Rattle.moka_grammar.specs.Options.{span_nanos}
@@ -49,9 +50,20 @@ module _ {W : Type 0} where
       (answer : machine.Answer ℕ (Stored (List ℕ))) × machine.IsStep script_keys stored_weighs old request answer new ×
       (reply ≡ told answer)
 
+  -- the machine makes a step in a cache that has this time to live; one without is left as it is, and the refusal is told
+  abbrev pub TellsIfTimed : {D : Type 0} → Option D → ScriptCache W → machine.Request ℕ (Stored (List ℕ)) → Reply → ScriptCache W → Type 0
+  TellsIfTimed (Some live) old request reply new = TellsStep old request reply new
+  TellsIfTimed None old request reply new = (reply ≡ telling.NoTimeToLive) × (new ≡ old)
+
+  -- what an insert of this is answered, and the cache after it: one with a time to live of its own wants a cache that has one
+  abbrev pub TellsInsert : ScriptCache W → ℕ → Stored (List ℕ) → Option Span → ℕ → Reply → ScriptCache W → Type 0
+  TellsInsert old key stored None now reply new = TellsStep old (machine.Insert key stored None now) reply new
+  TellsInsert old key stored (Some live) now reply new =
+      TellsIfTimed old.settings.policy.time_to_live old (machine.Insert key stored (Some (span_nanos live)) now) reply new
+
   -- what a request at a moment is answered, and the cache after it; a cache for one thread is not asked to sync
   abbrev pub IsAnswered : ScriptCache W → ℕ → Request (List ℕ) → Reply → ScriptCache W → Type 0
-  IsAnswered old now (Insert key text weight) reply new = TellsStep old (machine.Insert key (stored_text text weight) now) reply new
+  IsAnswered old now (Insert key text weight live) reply new = TellsInsert old key (stored_text text weight) live now reply new
   IsAnswered old now (Get key) reply new = TellsStep old (machine.Get key now) reply new
   IsAnswered old now (ContainsKey key) reply new = TellsStep old (machine.ContainsKey key now) reply new
   IsAnswered old now (Invalidate key) reply new = TellsStep old (machine.Invalidate key now) reply new

@@ -164,7 +164,13 @@ fn call_at<A: Allocator + Clone + Drop>(
 {
     let now = Instant::from_nanos(line.now);
     match line.request {
-        Request::Insert { key, text, weight } => {
+        // Lines of this mode have no time to live of their own.
+        Request::Insert {
+            key,
+            text,
+            weight,
+            ..
+        } => {
             let key = Shared::new(alloc.clone()?, key)?;
             let value = Shared::new(alloc, stored_text(text, weight))?;
             Ok(Call::Insert { key, value, now })

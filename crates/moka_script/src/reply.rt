@@ -31,6 +31,8 @@ pub enum ReplyValue<'a> {
     Limits(&'a Policy),
     OutOfMemory,
     TicketsUsedUp,
+    /// An insert with a time to live of its own, in a cache without one.
+    NoTimeToLive,
     /// A read for which there was no room in its log.
     Discarded,
     /// The phase of a maintenance.
@@ -83,6 +85,7 @@ pub fn push_reply<A: Allocator + Clone + Drop>(
         ReplyValue::Limits(policy) => push_policy(text, *policy),
         ReplyValue::OutOfMemory => text.extend_from_slice(b"refused memory\n"),
         ReplyValue::TicketsUsedUp => text.extend_from_slice(b"refused tickets\n"),
+        ReplyValue::NoTimeToLive => text.extend_from_slice(b"refused time-to-live\n"),
         ReplyValue::Discarded => text.extend_from_slice(b"discarded\n"),
         ReplyValue::At(phase) => push_phase(text, phase),
         ReplyValue::NotPossible => text.extend_from_slice(b"not possible\n"),

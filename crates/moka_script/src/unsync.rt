@@ -4,10 +4,10 @@ ghost use Rattle.std.specs.List.{AllByRecursion};
 ghost use Rattle.moka_unsync.specs.Invalidate.{after_invalidate_if};
 ghost use Rattle.moka_grammar.specs.Lines.{allows, LineFits};
 ghost use Rattle.moka_script.specs.Reply.{Ready, Reply as Told, reply_line};
-ghost use Rattle.moka_script.specs.ReplyValue.{pairs_of};
+ghost use Rattle.moka_script.specs.ReplyValue.{pairs_of, reply_of};
 ghost use Rattle.moka_script.specs.ScriptKeys.{script_keys};
-ghost use Rattle.moka_script.specs.ScriptWeighers.{AnswersLine};
-ghost use Rattle.moka_script.specs.UnsyncRun.{AreUnsyncReplies, AreUnsyncReplyLines, HasLimits, IsAnswered, have_text, shares_of};
+ghost use Rattle.moka_script.specs.ScriptWeighers.{AnswersLine, AnswersStored};
+ghost use Rattle.moka_script.specs.UnsyncRun.{AreUnsyncReplies, AreUnsyncReplyLines, HasLimits, IsAnswered, TellsInsert, have_text, shares_of};
 
 use crate::keys::KeyState;
 use crate::reply::{ReplyValue, found, push_reply, refusal};
@@ -15,10 +15,11 @@ use crate::stored::{Stored, StoredWeight, stored_text};
 use moka_common::error::OutOfMemory;
 use moka_common::time::Instant;
 use moka_common::weigh::{UnitWeight, Weigh};
-use moka_grammar::line::{CacheHeader, CacheOptions, Line, Mode, Request};
+use moka_grammar::line::{CacheHeader, CacheOptions, Line, Mode, Request, Span};
 use moka_grammar::text::Text;
 use moka_unsync::builder::CacheBuilder;
 use moka_unsync::cache::{Cache, Iter};
+use moka_unsync::error::TimedInsertError;
 use std::alloc::{AllocError, Allocator};
 
 /// A builder of caches that a script's calls are made on.
@@ -113,12 +114,10 @@ fn reply_to<A: Allocator + Clone + Drop, W: Weigh<u64, Stored<Text<A>>>>(
             key,
             text: value,
             weight,
+            live,
         } => {
-            let inserted = cache.insert(key, stored_text(value, weight), now);
-            let reply = match inserted {
-                Ok(()) => ReplyValue::Done,
-                Err(_) => ReplyValue::OutOfMemory,
-            };
+            let stored = stored_text(value, weight);
+            let reply = insert(cache, key, stored, live, now);
             push_reply(text, reply)
         }
         Request::Get { key } => push_reply(text, found(cache.get(&key, now))),
@@ -155,6 +154,32 @@ fn reply_to<A: Allocator + Clone + Drop, W: Weigh<u64, Stored<Text<A>>>>(
             let policy = cache.policy();
             push_reply(text, ReplyValue::Limits(&policy))
         }
+    }
+}
+
+/// Makes an insert, with its own time to live if the line has one, and returns the reply.
+fn insert<A: Allocator + Clone + Drop, W: Weigh<u64, Stored<Text<A>>>>(
+    cache: &mut ScriptCache<W, A>,
+    key: u64,
+    stored: Stored<Text<A>>,
+    live: Option<Span>,
+    now: Instant,
+) -> ReplyValue<'static>
+    requires ready { W.ready cache.old.weigher }
+    requires weighs { AnswersStored W.weighs key stored }
+    ensures step { TellsInsert cache.old key stored live now (reply_of result) cache.new }
+    ensures ready { W.ready cache.new.weigher }
+{
+    let Some(live) = live else {
+        return match cache.insert(key, stored, now) {
+            Ok(()) => ReplyValue::Done,
+            Err(_) => ReplyValue::OutOfMemory,
+        };
+    };
+    match cache.insert_with_time_to_live(key, stored, live.to_duration(), now) {
+        Ok(()) => ReplyValue::Done,
+        Err(TimedInsertError::NoTimeToLive) => ReplyValue::NoTimeToLive,
+        Err(TimedInsertError::OutOfMemory) => ReplyValue::OutOfMemory,
     }
 }
 

@@ -1,5 +1,5 @@
 -- A visit keeps a segment's account, and tells the caller where its calls stand.
-use Rattle.std.proofs.Common.{◌≡◌, ℕ, ◌∙◌, List, [], ◌∷◌, ◌++◌, Some, Result, Ok, Err, OnOk, OnErr, inl, inr, ap, get_or, refl, subst, sym}
+use Rattle.std.proofs.Common.{◌≡◌, ℕ, ◌∙◌, List, [], ◌∷◌, ◌++◌, Option, Some, Result, Ok, Err, OnOk, OnErr, inl, inr, ap, get_or, refl, subst, sym}
 use Rattle.moka_common.specs.declared.error.InsertError.{InsertError}
 use Rattle.moka_common.specs.Keys.{Keys}
 use Rattle.moka_unsync_model.specs.Insert.{IsInserted, IsRefused}
@@ -37,11 +37,11 @@ every_both P (x ∷ xs) ys a b = (a.0, every_both P xs ys a.1 b)
 
 module _ {K V S W : Type 0} (keys : Keys K S) (weighs : W → K → V → ℕ → W → Type 0) where
   -- an insert is a step
-  pub insert_step : (before after : CacheState K V S W) (key : K) (value : V) (now : ℕ) (r : Result (Unit {0}) InsertError)
-      → OnOk r (IsInserted keys weighs before key value now after) → OnErr r (IsRefused before after)
-      → IsStep keys weighs before (Insert key value now) (answer_of r) after
-  insert_step before after key value now (Ok done) made refused = inl (refl, made)
-  insert_step before after key value now (Err error) made refused = inr (refl, refused)
+  pub insert_step : (before after : CacheState K V S W) (key : K) (value : V) (own : Option ℕ) (now : ℕ) (r : Result (Unit {0}) InsertError)
+      → OnOk r (IsInserted keys weighs before key value own now after) → OnErr r (IsRefused before after)
+      → IsStep keys weighs before (Insert key value own now) (answer_of r) after
+  insert_step before after key value own now (Ok done) made refused = inl (refl, made)
+  insert_step before after key value own now (Err error) made refused = inr (refl, refused)
 
   led_settings : (start cache : CacheState K V S W) (past : List (Transition K V S W)) → Leads keys weighs start past cache → cache.settings ≡ start.settings
   led_settings start cache [] leads = ap (λ c. c.settings) leads

@@ -59,11 +59,11 @@ every_weaker P Q (visit ∷ log) weaker all = (weaker_of_one P Q visit.0 visit.1
 
 -- what an insert puts meets the rule of pairs
 abbrev Put : {K V : Type 0} → Rules K V → Request K V → Type 0
-Put rules (Insert key value now) = rules.holds key value
+Put rules (Insert key value own now) = rules.holds key value
 Put rules request = Unit {0}
 
 put_of : {K V : Type 0} (rules : Rules K V) (by : ℕ) (request : Request K V) → IsPermitted rules by request → Put rules request
-put_of rules by (Insert key value now) p = p.0
+put_of rules by (Insert key value own now) p = p.0
 put_of rules by request p = tt
 
 module _ {K V S : Type 0} (keys : Keys K S) (rules : Rules K V) (agree : Agree keys.eq rules) where
@@ -84,7 +84,7 @@ module _ {K V S : Type 0} (keys : Keys K S) (rules : Rules K V) (agree : Agree k
       mine at_key owns same = true≢false (sym (eq-eqb other by (owner other (agree.owns other at_key key same owns))) ∙ apart)
 
       unwritten : (request : Request K V) (answer : Answer K V) → IsPermitted rules other request → is_written keys request answer key ≡ false
-      unwritten (Insert at_key value now) Done may = not_both (keys.eq at_key key) (mine at_key may.1)
+      unwritten (Insert at_key value own now) Done may = not_both (keys.eq at_key key) (mine at_key may.1)
       unwritten request answer may = refl
 
       valid : (request : Request K V) (chosen : List K) → IsPermitted rules other request → is_invalidated keys request chosen key ≡ false
@@ -223,7 +223,7 @@ module _ {K V S W : Type 0} (keys : Keys K S) (weighs : W → K → V → ℕ �
   -- what is found behind one's own write
   pub finds_own : IsEquivalence keys.eq → Agree keys.eq rules → (is_clone : V → V → Type 0) (v u w : Knows K V S W) (key : K) (value : V) (now : ℕ) (found
       : Option V)
-      → Makes keys weighs rules plan v (place_of plan keys key) (Insert key value now) Done u → Gets keys weighs rules plan is_clone u key now (Ok found) w
+      → Makes keys weighs rules plan v (place_of plan keys key) (Insert key value None now) Done u → Gets keys weighs rules plan is_clone u key now (Ok found) w
       → FindsOwn keys weighs rules plan is_clone v key value found w
   finds_own laws agree is_clone v u w key value now found m got =
       let i = place_of plan keys key in
@@ -241,7 +241,7 @@ module _ {K V S W : Type 0} (keys : Keys K S) (weighs : W → K → V → ℕ �
       let now_written : value_written keys key (exchanges (calls (rest (at w.seen i)))) ≡ Some told.0 = ap (option_map (λ write. write.value)) current.1 ∙ ap
       Some current.2 in
       subst (λ x. is_clone x copy) (sym (some_is value told.0 (sym last ∙ now_written))) told.2 in
-      let wrote : value_written keys key (exchanges (calls ((v.by, first.call ∷ []) ∷ earlier))) ≡ Some value = written keys laws key value now first.call
+      let wrote : value_written keys key (exchanges (calls ((v.by, first.call ∷ []) ∷ earlier))) ≡ Some value = written keys laws key value None now first.call
       (calls earlier) first.asked first.answered in
       record {
         write = first.call ∷ [];
@@ -257,7 +257,7 @@ module _ {K V S W : Type 0} (keys : Keys K S) (weighs : W → K → V → ℕ �
             let only = only_owner keys rules agree u.by key (rest (at w.seen i)) owner_now (ruled_before u w i (Get key now) (Found got.found) second) in
             let mine_wrote : value_written keys key (exchanges (joined (at u.mine i))) ≡ Some value =
             ap (λ (l : List (Visit K V S W)). value_written keys key (exchanges (joined l))) first.visit.mine
-            ∙ written keys laws key value now first.call (joined (at v.mine i)) first.asked first.answered in
+            ∙ written keys laws key value None now first.call (joined (at v.mine i)) first.asked first.answered in
             same_value copy is (sym (same_written u w i (Get key now) (Found got.found) second key only) ∙ mine_wrote);
       }
 
@@ -348,15 +348,15 @@ module _ {K V S W : Type 0} {keys : Keys K S} {weighs : W → K → V → ℕ �
         )
 
     -- what an insert tells
-    pub inserts : {value : V} {result : Result (Unit {0}) InsertError} → IsEquivalence keys.eq → place_of plan keys key ≡ i
-        → Makes keys weighs rules plan v i (Insert key value now) (answer_of result) w → Inserts keys weighs rules plan v key value now result w
-    inserts {value = value} {result = result} laws place there =
+    pub inserts : {value : V} {own : Option ℕ} {result : Result (Unit {0}) InsertError} → IsEquivalence keys.eq → place_of plan keys key ≡ i
+        → Makes keys weighs rules plan v i (Insert key value own now) (answer_of result) w → Inserts keys weighs rules plan v key value own now result w
+    inserts {value = value} {own = own} {result = result} laws place there =
         let at_key = place_of plan keys key in
-        let made : Makes keys weighs rules plan v at_key (Insert key value now) (answer_of result) w = at_place key place there in
+        let made : Makes keys weighs rules plan v at_key (Insert key value own now) (answer_of result) w = at_place key place there in
         let m = made.made in
-        let led = parts keys weighs rules plan v w at_key (Insert key value now) (answer_of result) m in
+        let led = parts keys weighs rules plan v w at_key (Insert key value own now) (answer_of result) m in
         record {
           made = made;
           enters = λ done. insert_law keys laws weighs (settings_of plan at_key) plan.shares m.visit.history.weigher m.visit.history.capacity
-              (calls (m.visit.since ++ at v.seen at_key)) m.call m.call.after key value now (refl, led.1, led.2) m.asked done;
+              (calls (m.visit.since ++ at v.seen at_key)) m.call m.call.after key value own now (refl, led.1, led.2) m.asked done;
         }

@@ -68,7 +68,7 @@ module _ {K V S W : Type 0} (keys : Keys K S) (weighs : W → K → V → ℕ �
         → PutsBehind keys weighs rules plan v i key value now (put_answer b) w
     put_behind found put value b e is m = record {
       get = call_of before (Get key now) (Found None) between;
-      insert = call_of between (Insert key value now) (put_answer b) after;
+      insert = call_of between (Insert key value None now) (put_answer b) after;
       asked = (refl, refl);
       answered = (refl, refl);
       made = subst (λ (z : Option V × Option (V × Bool)). Visits keys weighs rules plan v i (visit_of before key now z.0 between z.1 after) w)

@@ -1,5 +1,5 @@
 -- What a session finds that was told of another's write.
-use Rattle.std.proofs.Common.{◌≡◌, ℕ, ◌∙◌, ◌∷◌, [], ◌++◌, append_assoc, Option, Some, Ok, ap, subst, sym}
+use Rattle.std.proofs.Common.{◌≡◌, ℕ, ◌∙◌, ◌∷◌, [], ◌++◌, append_assoc, Option, Some, None, Ok, ap, subst, sym}
 use Rattle.std.specs.Cmp.{IsEquivalence}
 use Rattle.std.specs.Prelude.{option_map}
 use Rattle.moka_common.specs.declared.error.OutOfMemory as error
@@ -20,7 +20,7 @@ use Rattle.moka_segments.proofs.OwnLemmas.{spared_visits, written}
 module _ {K V S W : Type 0} (keys : Keys K S) (weighs : W → K → V → ℕ → W → Type 0) (rules : Rules K V) (plan : Plan S) where
   -- v writes and is u then; a is told of it and is b then; b reads and is w then
   pub finds_told : IsEquivalence keys.eq → (is_clone : V → V → Type 0) (v u a b w : Knows K V S W) (key : K) (value : V) (now : ℕ) (found : Option V)
-      → Makes keys weighs rules plan v (place_of plan keys key) (Insert key value now) Done u → Hears a u.seen b
+      → Makes keys weighs rules plan v (place_of plan keys key) (Insert key value None now) Done u → Hears a u.seen b
       → Gets keys weighs rules plan is_clone b key now (Ok found) w
       → FindsTold keys weighs rules plan is_clone a.by v.by key value found w
   finds_told laws is_clone v u a b w key value now found m heard got =
@@ -34,7 +34,7 @@ module _ {K V S W : Type 0} (keys : Keys K S) (weighs : W → K → V → ℕ �
       let whole : second.visit.since ++ at b.seen i ≡ between ++ (v.by, first.call ∷ []) ∷ earlier =
       ap (λ (l : Log K V S W). second.visit.since ++ l) here ∙ sym (append_assoc second.visit.since more ((v.by, first.call ∷ []) ∷ earlier)) in
       let past : rest (at w.seen i) ≡ between ++ (v.by, first.call ∷ []) ∷ earlier = ap rest second.visit.seen ∙ whole in
-      let wrote : value_written keys key (exchanges (calls ((v.by, first.call ∷ []) ∷ earlier))) ≡ Some value = written keys laws key value now first.call
+      let wrote : value_written keys key (exchanges (calls ((v.by, first.call ∷ []) ∷ earlier))) ≡ Some value = written keys laws key value None now first.call
       (calls earlier) first.asked first.answered in
       record {
         write = first.call ∷ [];

@@ -48,7 +48,7 @@ module _ {K V S : Type 0} (keys : Keys K S) where
   IsOfSegment plan i (Get key now) = place_of plan keys key ≡ i
   IsOfSegment plan i (Peek key now) = place_of plan keys key ≡ i
   IsOfSegment plan i (ContainsKey key now) = place_of plan keys key ≡ i
-  IsOfSegment plan i (Insert key value now) = place_of plan keys key ≡ i
+  IsOfSegment plan i (Insert key value own now) = place_of plan keys key ≡ i
   IsOfSegment plan i (Invalidate key now) = place_of plan keys key ≡ i
   IsOfSegment plan i (Remove key now) = place_of plan keys key ≡ i
   IsOfSegment plan i request = Unit {0}

@@ -35,7 +35,7 @@ module _ {L K V S W : Type 0} (hears : L → K → V → Cause → L → Type 0)
   abbrev pub TellsCall : CacheState K V S W → Request K V → Answer K V → CacheState K V S W → L → L → Type 0
   TellsCall old (Get key now) answer new before after = TellsLook hears keys old now before after
   TellsCall old (ContainsKey key now) answer new before after = TellsLook hears keys old now before after
-  TellsCall old (Insert key value now) answer new before after = TellsInserted old key value now answer new before after
+  TellsCall old (Insert key value own now) answer new before after = TellsInserted old key value now answer new before after
   TellsCall old (Invalidate key now) answer new before after = TellsInvalidate hears keys old now key before after
   TellsCall old (Remove key now) answer new before after = TellsRemove hears keys old now key before after
   TellsCall old InvalidateAll answer new before after = TellsWhatLeft hears Explicit (λ e. ⊤) old.contents.entries [] before after

@@ -18,7 +18,7 @@ put_answer false = OutOfMemory
 abbrev pub visit_of : {K V S W : Type 0} → CacheState K V S W → K → ℕ → Option V → CacheState K V S W → Option (V × Bool) → CacheState K V S W → Visit K V S W
 visit_of before key now found between None after = record { before = before; request = Get key now; answer = Found found; after = after } ∷ []
 visit_of before key now found between (Some put) after =
-    record { before = between; request = Insert key put.0 now; answer = put_answer put.1; after = after }
+    record { before = between; request = Insert key put.0 None now; answer = put_answer put.1; after = after }
     ∷ record { before = before; request = Get key now; answer = Found found; after = between }
     ∷ []
 
@@ -44,4 +44,4 @@ module _ {K V S W : Type 0} (keys : Keys K S) (weighs : W → K → V → ℕ �
   -- the insert's step, where there was one
   abbrev pub IsPut : CacheState K V S W → K → ℕ → Option (V × Bool) → CacheState K V S W → Type 0
   IsPut before key now None after = after ≡ before
-  IsPut before key now (Some put) after = IsStep keys weighs before (Insert key put.0 now) (put_answer put.1) after
+  IsPut before key now (Some put) after = IsStep keys weighs before (Insert key put.0 None now) (put_answer put.1) after

@@ -15,7 +15,7 @@ pub record Agree {K V : Type 0} (eq : K → K → Bool) (rules : Rules K V) : Ty
 module _ {K V : Type 0} (rules : Rules K V) where
   -- a visitor may make this call
   abbrev pub IsPermitted : ℕ → Request K V → Type 0
-  IsPermitted by (Insert key value now) = rules.holds key value × rules.owns by key
+  IsPermitted by (Insert key value own now) = rules.holds key value × rules.owns by key
   IsPermitted by (Invalidate key now) = rules.owns by key
   IsPermitted by (Remove key now) = rules.owns by key
   IsPermitted by InvalidateAll = (key : K) → rules.owns by key

@@ -1,15 +1,19 @@
 -- What a session's calls tell of the history at their place in it.
-use Rattle.std.specs.Prelude.{◌≡◌, ◌⊎◌, ◌↔◌, ℕ, Bool, true, List, [], ◌∷◌, ◌++◌, Option, Some, None, Result, Ok, Err}
+use Rattle.std.specs.Prelude.{◌≡◌, ◌⊎◌, ◌↔◌, ℕ, Bool, true, List, [], ◌∷◌, ◌++◌, Option, Some, None, IsSome, Result, Ok, Err}
 use Rattle.moka_common.specs.declared.error.InsertError.{InsertError}
 use Rattle.moka_common.specs.declared.error.InsertError.TheVariants as refused
 use Rattle.moka_common.specs.declared.error.OutOfMemory as error
 use Rattle.moka_common.specs.Keys.{Keys}
+use Rattle.moka_common.specs.Settings.{live_nanos}
 use Rattle.moka_common.specs.Policy.{Policy}
 use Rattle.moka_unsync_model.specs.declared.entry.Entry.{Entry}
 use Rattle.moka_unsync_model.specs.Contents.{entry_at}
+use Rattle.moka_unsync_model.specs.Deadline.{end_of}
 use Rattle.moka_unsync_model.specs.Step.{Answer, ContainsKey, Get, Insert, Peek, Remove, Done, Found, OutOfMemory, Truth}
 use Rattle.moka_unsync_model.specs.History.{IsCurrent, LastWrite, Transition, exchanges, is_over, last_write}
 use Rattle.moka_unsync_model.specs.Removal.{IsMissing, IsRejected, last_write_of}
+use Rattle.moka_unsync.specs.declared.error.TimedInsertError.{TimedInsertError}
+use Rattle.moka_unsync.specs.declared.error.TimedInsertError.TheVariants as timed
 use Rattle.moka_unsync.specs.declared.error.TryInsertError.{TryInsertError}
 use Rattle.moka_unsync.specs.declared.error.TryInsertError.TheVariants as failed
 use Rattle.moka_row.specs.Visits.{at}
@@ -51,9 +55,10 @@ module _ {K V S W : Type 0} (keys : Keys K S) (weighs : W → K → V → ℕ �
       (value : V) → found ≡ Some value → OnlyBy keys by key (rest log) → value_written keys key (exchanges (joined mine)) ≡ Some value
 
   -- the value of an accepted insert stands at its key then, or it was rejected for want of room
-  abbrev pub Enters : K → V → ℕ → Transition K V S W → Type 0
-  Enters key value now call =
-      ((e : Entry K V) × (entry_at keys.eq key call.after.contents.entries ≡ Some e) × (last_write_of e ≡ record { value = value; written = now; used = now }))
+  abbrev pub Enters : Policy → K → V → Option ℕ → ℕ → Transition K V S W → Type 0
+  Enters policy key value own now call =
+      ((e : Entry K V) × (entry_at keys.eq key call.after.contents.entries ≡ Some e)
+      × (last_write_of e ≡ record { value = value; deadline = end_of (live_nanos policy) own now; used = now }))
       ⊎ IsRejected keys weighs call key
 
 module _ {K V S W : Type 0} (keys : Keys K S) (weighs : W → K → V → ℕ → W → Type 0) (rules : Rules K V) where
@@ -92,10 +97,19 @@ module _ {K V S W : Type 0} (keys : Keys K S) (weighs : W → K → V → ℕ �
       pub made : Makes keys weighs rules plan old (place_of plan keys key) (ContainsKey key now) (Truth there) new
       pub hit : there ≡ true → (value : V) × IsCurrent keys plan.policy now (exchanges (calls (rest (at new.seen (place_of plan keys key))))) key value
 
-    -- what an insert makes and tells
-    pub record Inserts (old : Knows K V S W) (key : K) (value : V) (now : ℕ) (result : Result (Unit {0}) InsertError) (new : Knows K V S W) : Type 0 where
-      pub made : Makes keys weighs rules plan old (place_of plan keys key) (Insert key value now) (answer_of result) new
-      pub enters : made.made.call.answer ≡ Done → Enters keys weighs key value now made.made.call
+    -- what an insert makes and tells, with its own time to live if it has one
+    pub record Inserts (old : Knows K V S W) (key : K) (value : V) (own : Option ℕ) (now : ℕ) (result : Result (Unit {0}) InsertError)
+        (new : Knows K V S W) : Type 0 where
+      pub made : Makes keys weighs rules plan old (place_of plan keys key) (Insert key value own now) (answer_of result) new
+      pub enters : made.made.call.answer ≡ Done → Enters keys weighs plan.policy key value own now made.made.call
+
+    -- what one with its own time to live makes and tells: without one of the cache nothing is made
+    abbrev pub TimedInserts : Knows K V S W → K → V → ℕ → ℕ → Result (Unit {0}) TimedInsertError → Knows K V S W → Type 0
+    TimedInserts old key value own now (Ok done) new =
+        IsSome plan.policy.time_to_live × Inserts old key value (Some own) now (Ok done) new
+    TimedInserts old key value own now (Err timed.OutOfMemory) new =
+        IsSome plan.policy.time_to_live × Inserts old key value (Some own) now (Err refused.OutOfMemory) new
+    TimedInserts old key value own now (Err timed.NoTimeToLive) new = (plan.policy.time_to_live ≡ None) × (new ≡ old)
 
     -- what a removal makes and tells: what it hands back is what a get in its place would find
     pub record Removes (old : Knows K V S W) (key : K) (now : ℕ) (found : Option V) (new : Knows K V S W) : Type 0 where
@@ -108,7 +122,7 @@ module _ {K V S W : Type 0} (keys : Keys K S) (weighs : W → K → V → ℕ �
     pub record PutsBehind (old : Knows K V S W) (i : ℕ) (key : K) (value : V) (now : ℕ) (answer : Answer K V) (new : Knows K V S W) : Type 0 where
       pub get : Transition K V S W
       pub insert : Transition K V S W
-      pub asked : (get.request ≡ Get key now) × (insert.request ≡ Insert key value now)
+      pub asked : (get.request ≡ Get key now) × (insert.request ≡ Insert key value None now)
       pub answered : (get.answer ≡ Found None) × (insert.answer ≡ answer)
       pub made : Visits keys weighs rules plan old i (insert ∷ get ∷ []) new
 

@@ -1,12 +1,13 @@
 //! The cache that threads share.
 ghost use Rattle.std.specs.Prelude.{◌≡◌, ℕ, Ok, IfOk, None};
+ghost use Rattle.std.specs.Duration.{as_nanos};
 ghost use Rattle.moka_segments.specs.Builder.{new_builder};
 ghost use Rattle.moka_common.specs.Keys.{keys_by};
 ghost use Rattle.moka_unsync_model.specs.Step.{Done, EntryCount, Invalidate, InvalidateAll, WeightedSize};
 ghost use Rattle.moka_segments.specs.Calls.{Makes, MakesAll, Sums};
 ghost use Rattle.moka_segments.specs.Plan.{place_of};
 ghost use Rattle.moka_segments.specs.Session.{ByGuest};
-ghost use Rattle.moka_segments.specs.Tells.{Gets, GetsOrInserts, Inserts, Looks, Peeks, Removes, TriesToInsert};
+ghost use Rattle.moka_segments.specs.Tells.{Gets, GetsOrInserts, Inserts, Looks, Peeks, Removes, TimedInserts, TriesToInsert};
 ghost use Rattle.moka_segments.specs.TellsAll.{InvalidatesAllIf, TellsSnapshot};
 ghost use Rattle.moka_row.specs.Visits.{guest, newcomer};
 
@@ -24,12 +25,13 @@ use moka_common::policy::Policy;
 use moka_common::time::Instant;
 use moka_common::weigh::UnitWeight;
 use moka_row::row::come;
-use moka_unsync::error::TryInsertError;
+use moka_unsync::error::{TimedInsertError, TryInsertError};
 use moka_unsync_model::listener::NoListener;
 use std::alloc::{AllocError, Global};
 use std::hash::{BuildHasher, Hash};
 use std::marker::Model;
 use std::sync::{Arc, Wait};
+use std::time::Duration;
 
 /// A cache that threads share, cut into segments by the hash of the key. Each segment is a whole cache for one thread (`unsync::Cache`) behind a lock of its
 /// own. A clone is the same cache.
@@ -237,11 +239,49 @@ impl<
         requires holds { P.rules.holds key value }
         requires owns { (seat : ℕ) → P.rules.owns (guest seat) key }
         ensures made { ByGuest {K = K} {V = V} {S = S} {W = W} self.now.plan (λ old new. Inserts (keys_by K.Hash S.BuildHasher
-            S.Hasher.Hasher) W.weighs P.rules self.now.plan old key value now result new) }
+            S.Hasher.Hasher) W.weighs P.rules self.now.plan old key value None now result new) }
     {
         let shared = &*self.shared;
         let mut caller = come(&shared.table.shared);
-        call::insert(rt, shared, &mut caller, key, value, now, &mut NoListener)
+        call::insert(
+            rt,
+            shared,
+            &mut caller,
+            key,
+            value,
+            None,
+            now,
+            &mut NoListener,
+        )
+    }
+
+    /// Puts the value at the key, as `insert` does, with a time to live of its own. The entry expires after that, or after the cache's time to live if that is
+    /// shorter. The cache needs one: without it the call is refused, and the cache is as it was.
+    pub fn insert_with_time_to_live<R: Wait>(
+        &self,
+        rt: &R,
+        key: K,
+        value: V,
+        time_to_live: Duration,
+        now: Instant,
+    ) -> Result<(), TimedInsertError>
+        requires holds { P.rules.holds key value }
+        requires owns { (seat : ℕ) → P.rules.owns (guest seat) key }
+        ensures made { ByGuest {K = K} {V = V} {S = S} {W = W} self.now.plan (λ old new. TimedInserts (keys_by K.Hash S.BuildHasher
+            S.Hasher.Hasher) W.weighs P.rules self.now.plan old key value (as_nanos time_to_live) now result new) }
+    {
+        let shared = &*self.shared;
+        let mut caller = come(&shared.table.shared);
+        call::insert_with_time_to_live(
+            rt,
+            shared,
+            &mut caller,
+            key,
+            value,
+            time_to_live,
+            now,
+            &mut NoListener,
+        )
     }
 
     /// Removes the entry of the key, if it has one.

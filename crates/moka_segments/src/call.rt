@@ -1,11 +1,12 @@
 //! Calls of one key, each a visit to the key's segment: the key is hashed once, and the call is noted as the lock is given back.
-ghost use Rattle.std.specs.Prelude.{◌≡◌, ◌*◌, [], Option, option_copied, option_map};
+ghost use Rattle.std.specs.Prelude.{◌≡◌, ◌*◌, [], OnOk, Option, option_copied, option_map};
+ghost use Rattle.std.specs.Duration.{as_nanos};
 ghost use Rattle.moka_common.specs.Keys.{keys_by};
 ghost use Rattle.moka_unsync_model.specs.Step.{Done, Invalidate};
 ghost use Rattle.moka_segments.specs.Calls.{Makes};
 ghost use Rattle.moka_segments.specs.Notifying.{TellsAt};
 ghost use Rattle.moka_segments.specs.Plan.{place_of};
-ghost use Rattle.moka_segments.specs.Tells.{Gets, Inserts, Looks, Peeks, Removes, TellsClone};
+ghost use Rattle.moka_segments.specs.Tells.{Gets, Inserts, Looks, Peeks, Removes, TellsClone, TimedInserts};
 ghost use Rattle.moka_row.specs.Visits.{IsIdle, IsPlace};
 
 use crate::account::Caller;
@@ -16,11 +17,13 @@ use crate::weigher::Weighing;
 use moka_common::error::{InsertError, OutOfMemory};
 use moka_common::time::Instant;
 use moka_row::row::{leave, lock};
+use moka_unsync::error::TimedInsertError;
 use moka_unsync_model::listener::Listener;
 use std::hash::{BuildHasher, Hash};
 use std::marker::Brand;
 use std::snapshot::Snapshot;
 use std::sync::Wait;
+use std::time::Duration;
 
 /// Returns the hash of a key, and its segment.
 #[inline]
@@ -185,6 +188,7 @@ pub(crate) fn insert<
     me: &mut Caller<K, V, S, W>,
     key: K,
     value: V,
+    time_to_live: Option<Duration>,
     now: Instant,
     listener: &mut L,
 ) -> Result<(), InsertError>
@@ -195,7 +199,7 @@ pub(crate) fn insert<
     ensures same { me.new.table_id ≡ me.old.table_id }
     ensures idle { IsIdle shared.now.table.shared.key me.new.me }
     ensures made { Inserts (keys_by K.Hash S.BuildHasher S.Hasher.Hasher) W.weighs P.rules shared.now.table.shared.key me.old.me.0 key value
-        now result me.new.me.0 }
+        (option_map as_nanos time_to_live) now result me.new.me.0 }
     ensures told { TellsAt L.hears (keys_by K.Hash S.BuildHasher S.Hasher.Hasher) shared.now.table.shared.key key me.new.me.0 listener.old
         listener.new }
 {
@@ -206,10 +210,63 @@ pub(crate) fn insert<
     let before = Snapshot::of(&*cache);
     let asked = Snapshot::of(&key);
     let given = Snapshot::of(&value);
-    let found = cache.insert_notifying(key, hash, value, now, listener);
+    let found = cache.insert_notifying(key, hash, value, time_to_live, now, listener);
     let after = Snapshot::of(&*cache);
-    leave::<_, _, _, _, _, Brand>(row, me, i, (before, after, asked, given, now, found));
+    leave::<_, _, _, _, _, Brand>(
+        row,
+        me,
+        i,
+        (before, after, asked, given, time_to_live, now, found),
+    );
     found
+}
+
+/// Inserts a value with a time to live of its own, in a cache that has one too.
+pub(crate) fn insert_with_time_to_live<
+    K: Eq + Hash + Drop,
+    V: Drop,
+    S: BuildHasher + Drop,
+    W: Weighing<K, V>,
+    P: Rule<K, V>,
+    L: Listener<K, V>,
+    R: Wait,
+>(
+    rt: &R,
+    shared: &Shared<K, V, S, W, P>,
+    me: &mut Caller<K, V, S, W>,
+    key: K,
+    value: V,
+    time_to_live: Duration,
+    now: Instant,
+    listener: &mut L,
+) -> Result<(), TimedInsertError>
+    requires table { me.old.table_id ≡ shared.now.table.shared.table_id }
+    requires idle { IsIdle shared.now.table.shared.key me.old.me }
+    requires holds { P.rules.holds key value }
+    requires owns { P.rules.owns me.old.me.0.by key }
+    ensures same { me.new.table_id ≡ me.old.table_id }
+    ensures idle { IsIdle shared.now.table.shared.key me.new.me }
+    ensures made { TimedInserts (keys_by K.Hash S.BuildHasher S.Hasher.Hasher) W.weighs P.rules shared.now.table.shared.key me.old.me.0 key value
+        (as_nanos time_to_live) now result me.new.me.0 }
+    ensures told { OnOk result (TellsAt L.hears (keys_by K.Hash S.BuildHasher S.Hasher.Hasher) shared.now.table.shared.key key me.new.me.0
+        listener.old listener.new) }
+{
+    if shared.plan.policy.time_to_live().is_none() {
+        return Err(TimedInsertError::NoTimeToLive);
+    }
+    match insert(
+        rt,
+        shared,
+        me,
+        key,
+        value,
+        Some(time_to_live),
+        now,
+        listener,
+    ) {
+        Ok(()) => Ok(()),
+        Err(_) => Err(TimedInsertError::OutOfMemory),
+    }
 }
 
 /// Removes the entry of the key.

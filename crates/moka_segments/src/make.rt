@@ -56,7 +56,7 @@ fn put<
     let Ok(copy) = value.clone() else {
         return (Err(InsertError::OutOfMemory), None);
     };
-    match cache.insert_notifying(key, hash, value, now, listener) {
+    match cache.insert_notifying(key, hash, value, None, now, listener) {
         Ok(()) => (Ok(copy), Some((given, true))),
         Err(error) => (Err(error), Some((given, false))),
     }

@@ -6,9 +6,10 @@ ghost use Rattle.moka_segments.specs.Calls.{Makes, MakesAll, Sums};
 ghost use Rattle.moka_row.specs.Kept.{Hears};
 ghost use Rattle.moka_segments.specs.Notifying.{TellsAt, TellsEach};
 ghost use Rattle.moka_segments.specs.Plan.{place_of};
-ghost use Rattle.moka_segments.specs.Tells.{Gets, GetsOrInserts, Inserts, Looks, Peeks, Removes, TriesToInsert};
+ghost use Rattle.moka_segments.specs.Tells.{Gets, GetsOrInserts, Looks, Peeks, Removes, TriesToInsert};
 ghost use Rattle.moka_segments.specs.TellsAll.{InvalidatesAllIf, TellsSnapshot};
 
+mod insert;
 mod listener;
 
 use crate::account::Caller;
@@ -254,34 +255,6 @@ impl<
             &*self.shared,
             &mut self.caller,
             key,
-            now,
-            &mut self.listener,
-        )
-    }
-
-    /// Puts the value at the key. The admission policy of the segment may reject a new entry, which is `Ok` as well. If memory is refused, the entries are as
-    /// they were. If it replaces a value, the listener gets the old value with the new key.
-    pub fn insert<R: Wait>(
-        &mut self,
-        rt: &R,
-        key: K,
-        value: V,
-        now: Instant,
-    ) -> Result<(), InsertError>
-        requires holds { P.rules.holds key value }
-        requires owns { P.rules.owns self.old.knows.by key }
-        ensures same { self.new.cache ≡ self.old.cache }
-        ensures made { Inserts (keys_by K.Hash S.BuildHasher S.Hasher.Hasher) W.weighs P.rules self.old.cache.plan self.old.knows key value
-            now result self.new.knows }
-        ensures told { TellsAt L.hears (keys_by K.Hash S.BuildHasher S.Hasher.Hasher) self.old.cache.plan key self.new.knows self.old.listener
-            self.new.listener }
-    {
-        call::insert(
-            rt,
-            &*self.shared,
-            &mut self.caller,
-            key,
-            value,
             now,
             &mut self.listener,
         )

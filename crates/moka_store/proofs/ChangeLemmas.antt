@@ -6,6 +6,7 @@ use Rattle.std.specs.List.{IsDistinct}
 use Rattle.std.specs.Map.{lookup, remove_entry, set_value, keys_of}
 use Rattle.moka_list.specs.Nodes.{next_id}
 use Rattle.moka_list.specs.HashIndex.{HashIndex}
+use Rattle.moka_unsync_model.specs.Deadline.{expiry_of}
 use Rattle.moka_unsync_model.specs.declared.entry.Entry.{Entry}
 use Rattle.moka_unsync_model.specs.declared.entry.Part.{Part}
 use Rattle.moka_unsync_model.specs.Contents.{is_protected, is_window, write_of, writes_without}
@@ -145,10 +146,10 @@ module _ {K V : Type 0} {eq : K → K → Bool} (laws : IsEquivalence eq) {keeps
       ∙ cond-true (nat_eq id id) (Some e) (lookup (nat_eq id) nodes) (nat_eq-same id)))
 
   pub writes_replaced : (new : List (ℕ × Entry K V)) → new ≡ latest_node (id, e) (remove_entry (nat_eq id) nodes)
-      → written_under new (write_last keeps id ids) ≡ with_write keeps (writes_without eq x.key (written_under nodes ids)) e.key e.modified
+      → written_under new (write_last keeps id ids) ≡ with_write keeps (writes_without eq x.key (written_under nodes ids)) e.key (expiry_of e)
   writes_replaced new is = under-last laws s.keyed s.written id x stood new e (others_listed new is) (own_listed new is)
 
   pub writes_last : (room : ℕ) (mid new : List (ℕ × Entry K V)) → mid ≡ latest_node (id, e) (remove_entry (nat_eq id) nodes) → IsBalanced room mid new
-      → written_under new (write_last keeps id ids) ≡ with_write keeps (writes_without eq x.key (written_under nodes ids)) e.key e.modified
+      → written_under new (write_last keeps id ids) ≡ with_write keeps (writes_without eq x.key (written_under nodes ids)) e.key (expiry_of e)
   writes_last room mid new is balance =
       under-same mid new (same-bare write_of (λ e. refl) mid new balance.same) (write_last keeps id ids) ∙ writes_replaced mid is

@@ -4,6 +4,7 @@ use Rattle.std.proofs.Common.{refl, ap, ◌∙◌, arith}
 use Rattle.std.proofs.lemmas.Bool.{cond-false, cond-true}
 use Rattle.std.specs.Cmp.{IsEquivalence}
 use Rattle.std.specs.Map.{lookup, remove_entry, values_of}
+use Rattle.moka_unsync_model.specs.Deadline.{expiry_of}
 use Rattle.moka_unsync_model.specs.declared.entry.Entry.{Entry}
 use Rattle.moka_unsync_model.specs.declared.entry.Part.TheVariants.{Probation}
 use Rattle.moka_unsync_model.specs.Contents.{balanced, entries_without, with_latest, writes_without}
@@ -48,7 +49,7 @@ module _ {K V : Type 0} {eq : K → K → Bool} (laws : IsEquivalence eq) (old n
       }
 
   pub replaces_is : (e : Entry K V) → new.nodes ≡ latest_node (id, e) (remove_entry (nat_eq id) old.nodes)
-      → new.written ≡ with_write old.keeps_writes (writes_without eq x.key old.written) e.key e.modified → Replaces eq old id e new
+      → new.written ≡ with_write old.keeps_writes (writes_without eq x.key old.written) e.key (expiry_of e) → Replaces eq old id e new
   replaces_is e nodes written =
       record {
         gone = x;
@@ -101,7 +102,7 @@ module _ {K V : Type 0} {eq : K → K → Bool} (laws : IsEquivalence eq) (old n
 
     pub updates_is : (update : Entry K V)
         → e ≡ record update { key = x.key; hash = x.hash; part = used_part old.protected_limit x.part update.weight }
-        → new.written ≡ with_write old.keeps_writes (writes_without eq x.key old.written) x.key update.modified → Updates eq old id update new
+        → new.written ≡ with_write old.keeps_writes (writes_without eq x.key old.written) x.key (expiry_of update) → Updates eq old id update new
     updates_is update is written =
         record {
           entry = x;
@@ -116,7 +117,7 @@ module _ {K V : Type 0} {eq : K → K → Bool} (laws : IsEquivalence eq) (old n
 -- a new entry comes
 pub enters_is : {K V : Type 0} {eq : K → K → Bool} (old new : Store K V) (id : ℕ) (e : Entry K V) → lookup (nat_eq id) old.nodes ≡ None
     → new.nodes ≡ latest_node (id, e) old.nodes
-    → new.written ≡ with_write old.keeps_writes old.written e.key e.modified → KeepsSettings old new → Enters eq old e new
+    → new.written ≡ with_write old.keeps_writes old.written e.key (expiry_of e) → KeepsSettings old new → Enters eq old e new
 enters_is old new id e fresh nodes written kept =
     record {
       contents = λ i. record { entries = (ap values_of nodes ∙ values-latest (id, e) old.nodes) i; written = written i };

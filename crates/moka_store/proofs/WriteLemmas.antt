@@ -8,6 +8,7 @@ use Rattle.std.specs.Cmp.{IsEquivalence}
 use Rattle.std.specs.List.{AllByRecursion, IsDistinct, cons_option}
 use Rattle.std.specs.Map.{lookup, remove_entry, keys_of, values_of}
 use Rattle.moka_list.specs.IdList.{ids_without, is_listed}
+use Rattle.moka_unsync_model.specs.Deadline.{expiry_of}
 use Rattle.moka_unsync_model.specs.declared.entry.Entry.{Entry}
 use Rattle.moka_unsync_model.specs.Contents.{entry_where, write_of, writes_except, writes_without}
 use Rattle.moka_unsync_model.specs.Insert.{with_write}
@@ -201,11 +202,11 @@ module _ {K V : Type 0} {eq : K → K → Bool} (laws : IsEquivalence eq) {keeps
   -- once another entry stands under its id, and is written
   pub under-last : (new : List (ℕ × Entry K V)) (x : Entry K V) → ((q : ℕ) → nat_eq id q ≡ false → write_under new q ≡ write_under nodes q)
       → write_under new id ≡ Some (write_of x)
-      → written_under new (write_last keeps id ids) ≡ with_write keeps (writes_without eq e.key (written_under nodes ids)) x.key x.modified
+      → written_under new (write_last keeps id ids) ≡ with_write keeps (writes_without eq e.key (written_under nodes ids)) x.key (expiry_of x)
   under-last new x others here = by keeps refl
     where
       by : (b : Bool) → keeps ≡ b
-          → written_under new (write_last b id ids) ≡ with_write b (writes_without eq e.key (written_under nodes ids)) x.key x.modified
+          → written_under new (write_last b id ids) ≡ with_write b (writes_without eq e.key (written_under nodes ids)) x.key (expiry_of x)
       by true kept =
           filter_map-append (write_under new) (ids_without id ids) (id ∷ [])
           ∙ ((λ i. under-but nodes new id others ids i ++ cons_option (here i) [])
@@ -217,7 +218,7 @@ module _ {K V : Type 0} {eq : K → K → Bool} (laws : IsEquivalence eq) {keeps
 -- once a new node has come
 pub under-latest : {K V : Type 0} {keeps : Bool} {nodes : List (ℕ × Entry K V)} {ids : List ℕ} → IsWritten keeps nodes ids → (id : ℕ) (e : Entry K V)
     → lookup (nat_eq id) nodes ≡ None
-    → written_under (latest_node (id, e) nodes) (write_added keeps id ids) ≡ with_write keeps (written_under nodes ids) e.key e.modified
+    → written_under (latest_node (id, e) nodes) (write_added keeps id ids) ≡ with_write keeps (written_under nodes ids) e.key (expiry_of e)
 under-latest {K = K} {V = V} {keeps = keeps} {nodes = nodes} {ids = ids} s id e fresh = by keeps refl
   where
     new : List (ℕ × Entry K V)
@@ -244,7 +245,7 @@ under-latest {K = K} {V = V} {keeps = keeps} {nodes = nodes} {ids = ids} s id e 
     all : AllByRecursion (λ i. IsSome (lookup (nat_eq i) nodes)) ids
     all = all-listed (λ i. IsSome (lookup (nat_eq i) nodes)) ids s.standing
 
-    by : (b : Bool) → keeps ≡ b → written_under new (write_added b id ids) ≡ with_write b (written_under nodes ids) e.key e.modified
+    by : (b : Bool) → keeps ≡ b → written_under new (write_added b id ids) ≡ with_write b (written_under nodes ids) e.key (expiry_of e)
     by true kept =
         filter_map-append (write_under new) ids (id ∷ []) ∙ (λ i. stood ids all i ++ cons_option (here i) [])
     by false unkept = stood ids all

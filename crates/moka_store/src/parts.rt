@@ -64,7 +64,8 @@ pub(crate) fn rewrite<K: Drop, V: Drop>(
     entry.weight = update.weight;
     entry.part = part;
     entry.accessed = update.accessed;
-    entry.modified = update.modified;
+    entry.deadline = update.deadline;
+    entry.outlasts = update.outlasts;
     (update.key, value)
 }
 

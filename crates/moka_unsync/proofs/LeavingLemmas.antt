@@ -181,12 +181,13 @@ module _ {L K V S W : Type 0} (hears : L → K → V → Cause → L → Type 0)
       }
 
   -- and else entries give way to the new one, or it is not let in
-  pub put_told : (weight : ℕ) (limit : Option ℕ) (stays : Bool) → limit ≡ main_max (windowed old) (windowed new) old.settings.policy.max_capacity
+  pub put_told : (weight : ℕ) (own : Option ℕ) (limit : Option ℕ) (stays : Bool)
+      → limit ≡ main_max (windowed old) (windowed new) old.settings.policy.max_capacity
       → entry_at keys.eq key were.entries ≡ None → stays ≡ is_some (entry_at keys.eq key new.contents.entries)
-      → TellsPut hears limit stays (new_entry keys old.settings.hash_state key value weight now) were.entries new.contents.entries between after
+      → TellsPut hears limit stays (new_entry keys old.settings key value weight own now) were.entries new.contents.entries between after
       → TellsInsert hears keys old now key value new before after
-  put_told weight limit stays limited absent stands put =
-      let entry = new_entry keys old.settings.hash_state key value weight now in
+  put_told weight own limit stays limited absent stands put =
+      let entry = new_entry keys old.settings key value weight own now in
       record {
         between = between;
         cleanup = told;
@@ -194,6 +195,7 @@ module _ {L K V S W : Type 0} (hears : L → K → V → Cause → L → Type 0)
             subst (λ o. TellsNew hears keys old now o key value new between after)
             (sym (ap (λ c. entry_at keys.eq key c.entries) (sym cleanup) ∙ absent)) (
               weight,
+              own,
               subst (λ l. TellsPut hears l (is_some (entry_at keys.eq key new.contents.entries)) entry
                   (after_cleanup keys.eq old.settings.policy now old.contents).entries new.contents.entries between after) limited
                   (subst (λ b. TellsPut hears limit b entry (after_cleanup keys.eq old.settings.policy now old.contents).entries new.contents.entries

@@ -1,12 +1,18 @@
 -- Lemmas on what invalidations take out of the store.
 use Rattle.std.proofs.Common.{◌≡◌, ◌<◌, ℕ, Bool, true, false, not, nat_eq, List, [], ◌∷◌, length, Option, Some, None, is_some}
-use Rattle.std.proofs.Common.{IfSome, unwrap_or, refl, sym, ap, ◌∙◌, inl, inr, arith, subst}
+use Rattle.std.proofs.Common.{◌||◌, IfSome, map, option_map, unwrap_or, refl, sym, ap, ◌∙◌, inl, inr, arith, subst}
 use Rattle.std.proofs.lemmas.Bool.{cases_Bool, cond-true, cond-false, false≢true}
 use Rattle.std.specs.Borrow.{Bor}
+use Rattle.std.specs.Duration.{as_nanos}
+use Rattle.std.specs.declared.time.Duration.{Duration}
 use Rattle.std.specs.List.{IsDistinct}
 use Rattle.std.specs.Map.{lookup, remove_entry, keys_of as ids_of, values_of}
 use Rattle.moka_list.specs.Nodes.{IsIn, first_id, next_id}
+use Rattle.moka_common.specs.Moment.{idle_expired, is_past}
+use Rattle.moka_common.specs.Policy.{Policy}
+use Rattle.moka_unsync_model.specs.Deadline.{expiry_of}
 use Rattle.moka_unsync_model.specs.declared.entry.Entry.{Entry}
+use Rattle.moka_unsync_model.specs.Cleanup.{is_expired}
 use Rattle.moka_unsync_model.specs.Contents.{Contents, after_leaving, entries_except, entry_keys, entry_where, except, without, writes_except}
 use Rattle.moka_unsync_model.specs.Invalidate.{AnswersAt, AnswersInTurn, chosen}
 use Rattle.moka_store.specs.Store.{Store, IsFound, Removes, contents_of, entries_of}
@@ -155,3 +161,82 @@ module _ {P K V : Type 0} (eq : K → K → Bool) (calls : P → Bor K → Bor V
   remaining_none first predicate begun store here h so_far =
       let none : entries_from here store ≡ [] = ap (λ o. values_of (from_node o store.nodes)) h ∙ ap values_of (from_none store.nodes) in
       (subst (Remaining first begun predicate (contents_of store)) none so_far) [] refl
+
+-- ---- a test on its way through the nodes
+
+module _ {K V : Type 0} (test : Entry K V → Bool) where
+  -- the entries that pass
+  abbrev pub passing : List (Entry K V) → List (Entry K V)
+  passing entries = chosen (map test entries) entries
+
+  -- one that passes is the first of them
+  passing-first : (e : Entry K V) (es : List (Entry K V)) → test e ≡ true → passing (e ∷ es) ≡ e ∷ passing es
+  passing-first e es passes = ap (λ answer. chosen (answer ∷ map test es) (e ∷ es)) passes
+
+  -- one that fails is none of them
+  passing-behind : (e : Entry K V) (es : List (Entry K V)) → test e ≡ false → passing (e ∷ es) ≡ passing es
+  passing-behind e es fails = ap (λ answer. chosen (answer ∷ map test es) (e ∷ es)) fails
+
+  -- where no entry passes, nothing does
+  passing-none : ((e : Entry K V) → test e ≡ false) → (es : List (Entry K V)) → passing es ≡ []
+  passing-none never [] = refl
+  passing-none never (e ∷ es) = passing-behind e es (never e) ∙ passing-none never es
+
+  -- where the entry of a stop passes, what stands there does
+  pub passes_there : {store : Store K V} {here after : Option ℕ} {id : ℕ} {stopped : Entry K V} → IsStop store here after id stopped
+      → test stopped ≡ true → (e : Entry K V) → lookup (nat_eq id) store.nodes ≡ Some e → test e ≡ true
+  passes_there {stopped = stopped} at passes e there = subst (λ x. test x ≡ true) (ap (λ o. unwrap_or o stopped) (sym at.stands ∙ there)) passes
+
+  module _ (eq : K → K → Bool) where
+    -- and none leaves
+    pub none_leaves : ((e : Entry K V) → test e ≡ false) → (contents : Contents K V)
+        → contents ≡ after_leaving eq (entry_keys (passing contents.entries)) contents
+    none_leaves never contents = ap (λ es. after_leaving eq (entry_keys es) contents) (sym (passing-none never contents.entries))
+
+    -- once those of the rest that pass have left, all that pass have
+    abbrev pub Leaving : Contents K V → Contents K V → List (Entry K V) → Type 0
+    Leaving begun contents rest =
+        after_leaving eq (entry_keys (passing rest)) contents ≡ after_leaving eq (entry_keys (passing begun.entries)) begun
+
+    -- so it is at the first node
+    pub leaving_first : (store : Store K V) (here : Option ℕ) → here ≡ first_id store.nodes
+        → Leaving (contents_of store) (contents_of store) (entries_from here store)
+    leaving_first store here h =
+        ap (λ es. after_leaving eq (entry_keys (passing es)) (contents_of store))
+        (ap (λ o. values_of (from_node o store.nodes)) h ∙ ap values_of (from_first store.nodes))
+
+    module _ (begun : Contents K V) {store : Store K V} {here after : Option ℕ} {id : ℕ} {e : Entry K V} (at : IsStop store here after id e)
+        (so_far : Leaving begun (contents_of store) (entries_from here store)) where
+      -- the rest at a stop is its entry, and what is behind it
+      stopped : Leaving begun (contents_of store) (e ∷ entries_from after store)
+      stopped = subst (Leaving begun (contents_of store)) (ap values_of (from_here at)) so_far
+
+      -- an entry that stays
+      pub leaving_kept : test e ≡ false → Leaving begun (contents_of store) (entries_from after store)
+      leaving_kept fails =
+          sym (ap (λ es. after_leaving eq (entry_keys es) (contents_of store)) (passing-behind e (entries_from after store) fails)) ∙ stopped
+
+      -- an entry that leaves
+      pub leaving_left : test e ≡ true → (new : Store K V) → Removes eq store id new → Leaving begun (contents_of new) (entries_from after new)
+      leaving_left passes new r =
+          subst (λ c. Leaving begun c (entries_from after new)) (sym (entry_left at eq new r))
+          (subst (Leaving begun (without eq (contents_of store) e.key)) (ap values_of (sym (behind_stays at eq new r)))
+          (sym (ap (λ es. after_leaving eq (entry_keys es) (contents_of store)) (passing-first e (entries_from after store) passes)) ∙ stopped))
+
+    -- at the end all that pass have left
+    pub leaving_none : (begun : Contents K V) (store : Store K V) (here : Option ℕ) → here ≡ None
+        → Leaving begun (contents_of store) (entries_from here store)
+        → contents_of store ≡ after_leaving eq (entry_keys (passing begun.entries)) begun
+    leaving_none begun store here h so_far =
+        subst (Leaving begun (contents_of store)) (ap (λ o. values_of (from_node o store.nodes)) h ∙ ap values_of (from_none store.nodes)) so_far
+
+-- without a duration no entry is expired
+pub never_expired : {K V : Type 0} (policy : Policy) (now : ℕ) → (is_some policy.time_to_live || is_some policy.time_to_idle) ≡ false
+    → (e : Entry K V) → is_expired policy now e ≡ false
+never_expired policy now none e = by policy.time_to_live policy.time_to_idle none
+  where
+    by : (live idle : Option Duration) → (is_some live || is_some idle) ≡ false
+        → (is_past (option_map as_nanos live) (expiry_of e) now || idle_expired (option_map as_nanos idle) e.accessed now) ≡ false
+    by None None none = refl
+    by None (Some idle) none = absurd (false≢true (sym none))
+    by (Some live) idle none = absurd (false≢true (sym none))

@@ -58,7 +58,7 @@ module _ {K V A S W : Type 0} (keys : Keys K S) (weighs : W → K → Rc V A →
         → IsPutBehind keys old key now weighs value new → Served call
     inserted value copy tells same made put =
         subst Served (sym is) (
-          Get key now ∷ Insert key hand now ∷ [],
+          Get key now ∷ Insert key hand None now ∷ [],
           Found None ∷ Done ∷ [],
           (gets_or_inserts keys weighs).inserted old new key hand now (subst (λ v. IsPutBehind keys old key now weighs v new) made put),
           inr (refl, inl (refl, (copy, tells, same ∙ ap (λ v. v.value) made))),
@@ -78,7 +78,7 @@ module _ {K V A S W : Type 0} (keys : Keys K S) (weighs : W → K → Rc V A →
     pub unroomed : told ≡ reply.OutOfMemory → IsRefusedBehind keys old key now new → Served call
     unroomed tells refusal =
         subst Served (sym is) (
-          Get key now ∷ Insert key hand now ∷ [],
+          Get key now ∷ Insert key hand None now ∷ [],
           Found None ∷ OutOfMemory ∷ [],
           (gets_or_inserts keys weighs).refused old new key hand now refusal,
           inr (refl, inr (refl, tells)),

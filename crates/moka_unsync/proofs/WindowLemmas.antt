@@ -6,6 +6,7 @@ use Rattle.std.specs.Cmp.{IsEquivalence}
 use Rattle.std.specs.List.{IsDistinct}
 use Rattle.std.specs.Map.{lookup}
 use Rattle.moka_common.specs.Sketch.{Table}
+use Rattle.moka_unsync_model.specs.Deadline.{expiry_of}
 use Rattle.moka_unsync_model.specs.declared.entry.Entry.{Entry}
 use Rattle.moka_unsync_model.specs.declared.entry.Part.TheVariants.{Probation, Window}
 use Rattle.moka_unsync_model.specs.declared.shares.PartLimits.{PartLimits}
@@ -114,7 +115,7 @@ module _ {K V : Type 0} where
       → Enters eq old e new → contents_of new ≡ after_entry eq keeps e (contents_of old)
   entered_last eq keeps old new e waits kept step =
       step.contents
-      ∙ (λ i. record { entries = latest_entry e waits (entries_of old) i; written = with_write (kept i) old.written e.key e.modified })
+      ∙ (λ i. record { entries = latest_entry e waits (entries_of old) i; written = with_write (kept i) old.written e.key (expiry_of e) })
 
   -- ---- one of them
 
@@ -148,7 +149,7 @@ module _ {K V : Type 0} where
       -- it is the last of the window, and of the writes
       pub entered_is : (contents : Contents K V) → after_arrival eq keeps new contents ≡ after_entry eq keeps new contents
       entered_is contents =
-          λ i. record { entries = latest_entry new waits contents.entries i; written = with_write keeps contents.written new.key new.modified }
+          λ i. record { entries = latest_entry new waits contents.entries i; written = with_write keeps contents.written new.key (expiry_of new) }
 
       -- where the first of the window is rejected
       pub replaced_last : (after : Store K V) → None ≡ victims_of (Some (main_limit limits)) sketch f.entry (main_of (entries_of old))

@@ -20,6 +20,7 @@ pub use Rattle.moka_unsync_model.specs.Told
 pub use Rattle.moka_unsync_model.specs.ToldCalls
 pub mod Notifying
 pub mod CacheLends
+pub mod Timed
 pub mod Trying
 -- inside
 pub mod Cached

@@ -24,7 +24,7 @@ module _ {K V A : Type 0} where
   request_of (call.Get key now) = Get key now
   request_of (call.Peek key now) = Peek key now
   request_of (call.Contains key now) = ContainsKey key now
-  request_of (call.Insert key value now) = Insert key value now
+  request_of (call.Insert key value now) = Insert key value None now
   request_of (call.GetOrInsert key value now) = Get key now
   request_of (call.Invalidate key now) = Invalidate key now
   request_of (call.Remove key now) = Remove key now
@@ -51,7 +51,7 @@ module _ {K V A : Type 0} where
   -- or the get finds nothing, and the value at hand is inserted, or refused its room
   abbrev pub IsInsertBehind : K → Rc V A → ℕ → List (Request K (Rc V A)) → List (Answer K (Rc V A)) → Reply V A → Type 0
   IsInsertBehind key value now asked answers told =
-      (asked ≡ Get key now ∷ Insert key value now ∷ [])
+      (asked ≡ Get key now ∷ Insert key value None now ∷ [])
       × (((answers ≡ Found None ∷ Done ∷ []) × HasOwner value told) ⊎ ((answers ≡ Found None ∷ OutOfMemory ∷ []) × (told ≡ reply.OutOfMemory)))
 
   -- what a call asks of the machine, what is answered, and a reply that tells it: one request, but of a get or insert one or two

@@ -16,6 +16,7 @@ mod calls;
 mod debug;
 mod follow;
 mod get_or_insert;
+mod insert;
 mod iter;
 mod parts;
 

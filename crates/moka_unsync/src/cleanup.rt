@@ -1,7 +1,11 @@
 // The work that each call does first: it removes expired entries, by write and then by use, and entries above the limit, in batches.
-ghost use Rattle.std.specs.Prelude.{◌≡◌, ⊤, false, true};
+ghost use Rattle.std.specs.Prelude.{◌≡◌, ◌||◌, ◌+◌, ◌-◌, ◌^◌, ⊤, false, is_some, nat_lt, option_map, true};
+ghost use Rattle.std.specs.Duration.{as_nanos};
+ghost use Rattle.moka_common.specs.Moment.{deadline_of, is_past};
+ghost use Rattle.moka_common.specs.Settings.{live_nanos};
 ghost use Rattle.moka_unsync_model.specs.declared.constants.TheConstants.{EVICTION_BATCH_SIZE};
 ghost use Rattle.moka_unsync_model.specs.Cleanup.{after_eviction, after_expiry, after_idle_expiry, after_live_expiry, after_cleanup, is_expired};
+ghost use Rattle.moka_unsync_model.specs.Deadline.{expiry_of, is_beyond};
 ghost use Rattle.moka_unsync_model.specs.Told.{TellsCleanup, TellsWhatLeft, cause_at};
 ghost use Rattle.moka_unsync_model.specs.declared.listener.Cause.TheVariants.{Expired, Size};
 ghost use Rattle.moka_store.specs.Store.{Continues, contents_of, entries_of, is_of, those_of};
@@ -17,6 +21,7 @@ use moka_unsync_model::entry::{Entry, Part};
 use moka_unsync_model::listener::{Cause, Listener};
 use std::alloc::Allocator;
 use std::marker::Model;
+use std::time::Duration;
 
 /// The limits of a cache, with what each call asks of them first. A contract sees the policy alone.
 #[derive(Drop)]
@@ -56,6 +61,40 @@ impl Bounds {
         ensures { result ≡ self.now }
     {
         self.limits.policy()
+    }
+
+    /// Returns `true` if entries have a time to live.
+    pub(crate) fn has_time_to_live(&self) -> bool
+        ensures { result ≡ is_some self.now.time_to_live }
+    {
+        self.limits.has_time_to_live()
+    }
+
+    /// Returns the deadline of an entry that is written then, with its own time to live if it has one.
+    #[inline(always)]
+    pub(crate) fn deadline(&self, own: Option<Duration>, written: Instant) -> Instant
+        ensures { result ≡ deadline_of (live_nanos self.now) (option_map as_nanos own) written }
+    {
+        self.limits.deadline(own, written)
+    }
+
+    /// Returns `true` if the time to live of an entry that is written then, its own or the cache's, ends after the last moment.
+    #[inline(always)]
+    pub(crate) fn is_beyond(&self, own: Option<Duration>, written: Instant) -> bool
+        ensures { result ≡ is_beyond (live_nanos self.now) (option_map as_nanos own) written }
+    {
+        match (self.limits.policy().time_to_live(), own) {
+            (None, _) => false,
+            (Some(live), None) => ends_beyond(written, live.as_nanos()),
+            (Some(live), Some(own)) => { ends_beyond(written, live.as_nanos().min(own.as_nanos())) }
+        }
+    }
+
+    /// Returns `true` if the policy has a duration. Without one no entry ever expires.
+    pub(crate) fn has_duration(&self) -> bool
+        ensures { result ≡ (is_some self.now.time_to_live || is_some self.now.time_to_idle) }
+    {
+        self.expires
     }
 
     /// Removes expired entries, and then entries above the limit. `get`, `contains_key`, `insert`, `invalidate` and `remove` do so first.
@@ -158,7 +197,7 @@ fn expire_oldest<K: Eq + Drop, V: Drop, A: Allocator + Clone + Drop, L: Listener
     let Some(id) = store.oldest_write() else {
         return false;
     };
-    if !limits.is_past_ttl(store.get(id).modified, now) {
+    if !is_past(limits, store.get(id), now) {
         return false;
     }
     leave(store, id, Cause::Expired, listener);
@@ -276,5 +315,25 @@ fn evict_lru_front<K: Eq + Drop, V: Drop, A: Allocator + Clone + Drop, L: Listen
 fn is_expired<K: Drop, V: Drop>(limits: &Limits, entry: &Entry<K, V>, now: Instant) -> bool
     ensures { result ≡ is_expired limits.now now entry.now }
 {
-    limits.is_past_ttl(entry.modified, now) || limits.is_idle(entry.accessed, now)
+    is_past(limits, entry, now) || limits.is_idle(entry.accessed, now)
+}
+
+/// Returns `true` if the time to live of an entry has ended.
+#[inline]
+fn is_past<K: Drop, V: Drop>(limits: &Limits, entry: &Entry<K, V>, now: Instant) -> bool
+    ensures { result ≡ is_past (live_nanos limits.now) (expiry_of entry.now) now }
+{
+    limits.has_time_to_live()
+        && if entry.outlasts {
+            entry.deadline < now
+        } else {
+            entry.deadline <= now
+        }
+}
+
+#[inline]
+fn ends_beyond(written: Instant, nanos: u128) -> bool
+    ensures { result ≡ nat_lt (2 ^ 64 - 1) (written + nanos) }
+{
+    u128::from(u64::MAX - written.nanos()) < nanos
 }

@@ -1,20 +1,23 @@
 //! A cache for one thread that gives a listener each entry that leaves.
-ghost use Rattle.std.specs.Prelude.{◌≡◌, ◌⊎◌, ⊤, Bool, List, [], None, Ok, IfErr, IfOk, OnErr, OnOk, option_copied};
+ghost use Rattle.std.specs.Prelude.{◌≡◌, ◌⊎◌, ⊤, Bool, List, [], None, Some, Ok, IfErr, IfOk, IsSome, OnErr, OnOk, option_copied, true};
+ghost use Rattle.std.specs.Duration.{as_nanos};
 ghost use Rattle.std.specs.Borrow.{sem};
 ghost use Rattle.moka_common.specs.Keys.{hash_by, keys_by};
+ghost use Rattle.moka_unsync_model.specs.Cleanup.{is_expired};
 ghost use Rattle.moka_unsync_model.specs.GetOrInsert.{IsGotOrInserted, IsRefusedBehind};
 ghost use Rattle.moka_unsync_model.specs.Insert.{IsInserted, IsRefused};
 ghost use Rattle.moka_unsync_model.specs.Invalidate.{AnswersInTurn, after_invalidate, after_invalidate_all, after_invalidate_if};
-ghost use Rattle.moka_unsync_model.specs.Invalidate.{after_invalidate_where};
+ghost use Rattle.moka_unsync_model.specs.Invalidate.{after_invalidate_where, after_remove_expired};
 ghost use Rattle.moka_unsync_model.specs.Lookup.{after_get, after_get_where, after_look, found_by_get, found_where, is_contained, is_contained_where};
 ghost use Rattle.moka_unsync_model.specs.Told.{TellsWhatLeft};
 ghost use Rattle.moka_unsync_model.specs.ToldCalls.{TellsGot, TellsInsert, TellsInvalidate, TellsInvalidateWhere, TellsLook, TellsRemove};
 ghost use Rattle.moka_unsync_model.specs.ToldCalls.{TellsRemoveWhere};
+ghost use Rattle.moka_unsync.specs.Timed.{IsTimedRefused};
 ghost use Rattle.moka_unsync.specs.Trying.{IsOnlyAGet};
-ghost use Rattle.moka_unsync_model.specs.declared.listener.Cause.TheVariants.{Explicit};
+ghost use Rattle.moka_unsync_model.specs.declared.listener.Cause.TheVariants.{Expired, Explicit};
 
 use crate::cache::Cache;
-use crate::error::TryInsertError;
+use crate::error::{TimedInsertError, TryInsertError};
 use moka_common::error::InsertError;
 use moka_common::hash::FixedState;
 use moka_common::lookup::Lookup;
@@ -24,6 +27,7 @@ use moka_unsync_model::listener::Listener;
 use std::alloc::{Allocator, Global};
 use std::hash::{BuildHasher, Hash};
 use std::marker::Model;
+use std::time::Duration;
 
 /// A cache with a listener, which gets each entry that leaves: within the call, once, with its cause.
 ///
@@ -231,6 +235,15 @@ impl<
         self.cache
             .invalidate_entries_if_notifying(predicate, &mut self.listener);
     }
+
+    /// Removes all expired entries, as `Cache::remove_expired` does.
+    pub fn remove_expired(&mut self, now: Instant)
+        ensures step { self.new.cache ≡ after_remove_expired (keys_by K.Hash S.BuildHasher S.Hasher.Hasher) self.old.cache now }
+        ensures told { TellsWhatLeft L.hears Expired (λ e. is_expired self.old.cache.settings.policy now e ≡ true)
+            self.old.cache.contents.entries self.new.cache.contents.entries self.old.listener self.new.listener }
+    {
+        self.cache.remove_expired_notifying(now, &mut self.listener);
+    }
 }
 
 impl<
@@ -244,7 +257,7 @@ impl<
     /// Puts the value at the key, as `Cache::insert` does. If it replaces a value, the listener gets the old value with the new key.
     pub fn insert(&mut self, key: K, value: V, now: Instant) -> Result<(), InsertError>
         requires ready { W.ready self.old.cache.weigher }
-        ensures step { OnOk result (IsInserted (keys_by K.Hash S.BuildHasher S.Hasher.Hasher) W.weighs self.old.cache key value now self.new.cache) }
+        ensures step { OnOk result (IsInserted (keys_by K.Hash S.BuildHasher S.Hasher.Hasher) W.weighs self.old.cache key value None now self.new.cache) }
         ensures err { OnErr result (IsRefused self.old.cache self.new.cache) }
         ensures error { IfErr result (λ error. error ≡ InsertError.OutOfMemory) }
         ensures ready { W.ready self.new.cache.weigher }
@@ -254,7 +267,37 @@ impl<
     {
         let hash = self.cache.hash_of(&key);
         self.cache
-            .insert_notifying(key, hash, value, now, &mut self.listener)
+            .insert_notifying(key, hash, value, None, now, &mut self.listener)
+    }
+
+    /// Puts the value at the key, as `Cache::insert_with_time_to_live` does. If it replaces a value, the listener gets the old value with the new key.
+    pub fn insert_with_time_to_live(
+        &mut self,
+        key: K,
+        value: V,
+        time_to_live: Duration,
+        now: Instant,
+    ) -> Result<(), TimedInsertError>
+        requires ready { W.ready self.old.cache.weigher }
+        ensures step { OnOk result (IsInserted (keys_by K.Hash S.BuildHasher S.Hasher.Hasher) W.weighs
+            self.old.cache key value (Some (as_nanos time_to_live)) now self.new.cache) }
+        ensures lives { OnOk result (IsSome self.old.cache.settings.policy.time_to_live) }
+        ensures err { IfErr result (λ error. IsTimedRefused error self.old.cache self.new.cache) }
+        ensures ready { W.ready self.new.cache.weigher }
+        ensures told { OnOk result (TellsInsert L.hears (keys_by K.Hash S.BuildHasher S.Hasher.Hasher)
+            self.old.cache now key value self.new.cache self.old.listener self.new.listener) }
+        ensures untold { OnErr result (self.new.listener ≡ self.old.listener) }
+    {
+        let hash = self.cache.hash_of(&key);
+        self.cache
+            .insert_with_time_to_live_notifying(
+                key,
+                hash,
+                value,
+                time_to_live,
+                now,
+                &mut self.listener,
+            )
     }
 }
 

@@ -1,10 +1,11 @@
-// Removals that the owner asks for: of a key, of all entries, and of those that a predicate chooses.
-ghost use Rattle.std.specs.Prelude.{◌≡◌, ◌++◌, ⊤, Bool, List, option_to_list, true};
+// Removals that the owner asks for: of a key, of all entries, of those that a predicate chooses, and of the expired ones.
+ghost use Rattle.std.specs.Prelude.{◌≡◌, ◌++◌, ⊤, Bool, List, map, option_to_list, true};
 ghost use Rattle.std.specs.List.Sorted.{IsPermutation};
+ghost use Rattle.moka_unsync_model.specs.Cleanup.{is_expired};
 ghost use Rattle.moka_unsync_model.specs.Contents.{after_leaving, entry_keys, entry_where, except, no_contents};
 ghost use Rattle.moka_unsync_model.specs.Invalidate.{AnswersInTurn, chosen};
 ghost use Rattle.moka_unsync_model.specs.Told.{TellsTaken, TellsWhatLeft};
-ghost use Rattle.moka_unsync_model.specs.declared.listener.Cause.TheVariants.{Explicit};
+ghost use Rattle.moka_unsync_model.specs.declared.listener.Cause.TheVariants.{Expired, Explicit};
 ghost use Rattle.moka_store.specs.Store.{Continues, HasHash, contents_of, entries_of};
 
 use crate::cleanup::Bounds;
@@ -88,6 +89,32 @@ pub(crate) fn remove_where<
         let entry = store.get(id);
         if predicate(&entry.key, &entry.value) {
             leave(store, id, Cause::Explicit, listener);
+        }
+    }
+}
+
+/// Removes all expired entries. It looks at each entry, unless the cache has no duration.
+pub(crate) fn remove_expired<K: Eq + Drop, V: Drop, A: Allocator + Clone + Drop, L: Listener<K, V>>(
+    store: &mut Store<K, V, A>,
+    bounds: &Bounds,
+    now: Instant,
+    listener: &mut L,
+)
+    ensures step { contents_of store.new
+        ≡ after_leaving K.eq (entry_keys (chosen (map (is_expired bounds.now now) (entries_of store.old)) (entries_of store.old)))
+        (contents_of store.old) }
+    ensures kept { Continues store.old store.new }
+    ensures told { TellsWhatLeft L.hears Expired (λ e. is_expired bounds.now now e ≡ true) (entries_of store.old) (entries_of store.new)
+        listener.old listener.new }
+{
+    if !bounds.has_duration() {
+        return;
+    }
+    let mut next = store.front();
+    while let Some(id) = next {
+        next = store.next(id);
+        if bounds.is_expired(store.get(id), now) {
+            leave(store, id, Cause::Expired, listener);
         }
     }
 }

@@ -77,13 +77,13 @@ module _ {K V S W : Type 0} (keys : Keys K S) (weighs : W → K → V → ℕ �
   bound-step old new (Get key now) answer step bound = bound-same old new (ap given_of step.1) bound
   bound-step old new (Peek key now) answer step bound = bound-same old new (ap given_of step.1) bound
   bound-step old new (ContainsKey key now) answer step bound = bound-same old new (ap given_of step.1) bound
-  bound-step old new (Insert key value now) answer (inl (done, inserted)) bound =
+  bound-step old new (Insert key value own now) answer (inl (done, inserted)) bound =
       let looked = after_look keys old now in
       let asked : CacheState K V S W = record looked { weigher = inserted.weigher; capacity = inserted.capacity } in
       subst IsBound (sym inserted.step)
       (bound-put keys.eq asked (entry_at keys.eq key looked.contents.entries)
-      (new_entry keys old.settings.hash_state key value inserted.weight now) inserted.refused bound)
-  bound-step old new (Insert key value now) answer (inr (refused, same)) bound = bound-same old new (ap given_of same.same) bound
+      (new_entry keys old.settings key value inserted.weight own now) inserted.refused bound)
+  bound-step old new (Insert key value own now) answer (inr (refused, same)) bound = bound-same old new (ap given_of same.same) bound
   bound-step old new (Invalidate key now) answer step bound = bound-same old new (ap given_of step.1) bound
   bound-step old new (Remove key now) answer step bound = bound-same old new (ap given_of step.1) bound
   bound-step old new InvalidateAll answer step bound = bound-same old new (ap given_of step.1) bound
@@ -164,13 +164,13 @@ module _ {K V S W : Type 0} (keys : Keys K S) (weighs : W → K → V → ℕ �
   fixed-step shares old new (Get key now) answer step fixed = ap kept_of step.1 ∙ fixed
   fixed-step shares old new (Peek key now) answer step fixed = ap kept_of step.1 ∙ fixed
   fixed-step shares old new (ContainsKey key now) answer step fixed = ap kept_of step.1 ∙ fixed
-  fixed-step shares old new (Insert key value now) answer (inl (done, inserted)) fixed =
+  fixed-step shares old new (Insert key value own now) answer (inl (done, inserted)) fixed =
       let looked = after_look keys old now in
       let asked : CacheState K V S W = record looked { weigher = inserted.weigher; capacity = inserted.capacity } in
       subst (IsFixed shares) (sym inserted.step)
       (fixed-put keys.eq shares asked (entry_at keys.eq key looked.contents.entries)
-      (new_entry keys old.settings.hash_state key value inserted.weight now) inserted.refused fixed)
-  fixed-step shares old new (Insert key value now) answer (inr (refused, same)) fixed = ap kept_of same.same ∙ fixed
+      (new_entry keys old.settings key value inserted.weight own now) inserted.refused fixed)
+  fixed-step shares old new (Insert key value own now) answer (inr (refused, same)) fixed = ap kept_of same.same ∙ fixed
   fixed-step shares old new (Invalidate key now) answer step fixed = ap kept_of step.1 ∙ fixed
   fixed-step shares old new (Remove key now) answer step fixed = ap kept_of step.1 ∙ fixed
   fixed-step shares old new InvalidateAll answer step fixed = ap kept_of step.1 ∙ fixed
@@ -330,13 +330,13 @@ module _ {K V S W : Type 0} (keys : Keys K S) (weighs : W → K → V → ℕ �
   followed-step old new (Get key now) answer step followed = followed-same old new (ap all_of step.1) followed
   followed-step old new (Peek key now) answer step followed = followed-same old new (ap all_of step.1) followed
   followed-step old new (ContainsKey key now) answer step followed = followed-same old new (ap all_of step.1) followed
-  followed-step old new (Insert key value now) answer (inl (done, inserted)) followed =
+  followed-step old new (Insert key value own now) answer (inl (done, inserted)) followed =
       let looked = after_look keys old now in
       let asked : CacheState K V S W = record looked { weigher = inserted.weigher; capacity = inserted.capacity } in
       subst IsFollowed (sym inserted.step)
-      (put-followed keys.eq asked (new_entry keys old.settings.hash_state key value inserted.weight now) inserted.refused followed
+      (put-followed keys.eq asked (new_entry keys old.settings key value inserted.weight own now) inserted.refused followed
       (entry_at keys.eq key looked.contents.entries))
-  followed-step old new (Insert key value now) answer (inr (refused, same)) followed = followed-same old new (ap all_of same.same) followed
+  followed-step old new (Insert key value own now) answer (inr (refused, same)) followed = followed-same old new (ap all_of same.same) followed
   followed-step old new (Invalidate key now) answer step followed = followed-same old new (ap all_of step.1) followed
   followed-step old new (Remove key now) answer step followed = followed-same old new (ap all_of step.1) followed
   followed-step old new InvalidateAll answer step followed = followed-same old new (ap all_of step.1) followed
@@ -368,21 +368,22 @@ module _ {K V S W : Type 0} (keys : Keys K S) (weighs : W → K → V → ℕ �
   moved-step limit old new (Get key now) answer step has followed = inl (ap (λ c. c.shares) step.1)
   moved-step limit old new (Peek key now) answer step has followed = inl (ap (λ c. c.shares) step.1)
   moved-step limit old new (ContainsKey key now) answer step has followed = inl (ap (λ c. c.shares) step.1)
-  moved-step limit old new (Insert key value now) answer (inl (done, inserted)) has followed =
+  moved-step limit old new (Insert key value own now) answer (inl (done, inserted)) has followed =
       let looked = after_look keys old now in
       let asked : CacheState K V S W = record looked { weigher = inserted.weigher; capacity = inserted.capacity } in
       inr (record {
         key = key;
         value = value;
+        own = own;
         now = now;
         is = refl;
         inserted = inserted;
         moves =
             subst (λ c. MovesBy limit inserted.weight old.shares c.shares) (sym inserted.step)
-            (put-moved keys.eq asked (new_entry keys old.settings.hash_state key value inserted.weight now) inserted.refused followed limit has
+            (put-moved keys.eq asked (new_entry keys old.settings key value inserted.weight own now) inserted.refused followed limit has
             (entry_at keys.eq key looked.contents.entries));
       })
-  moved-step limit old new (Insert key value now) answer (inr (refused, same)) has followed = inl (ap (λ c. c.shares) same.same)
+  moved-step limit old new (Insert key value own now) answer (inr (refused, same)) has followed = inl (ap (λ c. c.shares) same.same)
   moved-step limit old new (Invalidate key now) answer step has followed = inl (ap (λ c. c.shares) step.1)
   moved-step limit old new (Remove key now) answer step has followed = inl (ap (λ c. c.shares) step.1)
   moved-step limit old new InvalidateAll answer step has followed = inl (ap (λ c. c.shares) step.1)

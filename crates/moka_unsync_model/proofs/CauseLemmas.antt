@@ -10,10 +10,11 @@ use Rattle.std.specs.List.{AllByRecursion, list_any}
 use Rattle.std.proofs.lemmas.List.Elements.{filter-append, recursion_from_All}
 use Rattle.moka_common.specs.Admission.{outvoted}
 use Rattle.moka_common.specs.Keys.{Keys}
-use Rattle.moka_common.specs.Moment.{live_expired}
+use Rattle.moka_common.specs.Moment.{is_past}
 use Rattle.moka_common.specs.Policy.{Policy}
 use Rattle.moka_common.specs.Prefix.{shortest_prefix}
 use Rattle.moka_common.specs.Sketch.{Table, estimate}
+use Rattle.moka_unsync_model.specs.Deadline.{expiry_of}
 use Rattle.moka_unsync_model.specs.declared.entry.Entry.{Entry}
 use Rattle.moka_unsync_model.specs.declared.constants.TheConstants.{EVICTION_BATCH_SIZE}
 use Rattle.moka_unsync_model.specs.Contents.{Contents, Write, after_leaving, entry_at, entries_without, entry_keys, main_of, total_weight, window_of}
@@ -80,16 +81,16 @@ module _ {K V : Type 0} (eq : K → K → Bool) (laws : IsEquivalence eq) where
   lived-too-long : (policy : Policy) (now most : ℕ) (contents : Contents K V) (key : K) (e : Entry K V) → AllTied eq contents
       → entry_at eq key contents.entries ≡ Some e
       → list_any (λ w. eq w.key key) (take most (take_while (is_past_ttl policy now) contents.written)) ≡ true
-      → live_expired (live_nanos policy) e.modified now ≡ true
+      → is_past (live_nanos policy) (expiry_of e) now ≡ true
   lived-too-long policy now most contents key e tied found any =
       let P : Write K → Type 0 = λ w. IsTied eq contents.entries w × (is_past_ttl policy now w ≡ true) in
       let (w, (is_tied, lived), equal) =
       one-passes P (λ w. eq w.key key) (take most (take_while (is_past_ttl policy now) contents.written))
       (all-take P most (take_while (is_past_ttl policy now) contents.written)
       (all-taken (IsTied eq contents.entries) (is_past_ttl policy now) contents.written tied)) any in
-      let same : e.modified ≡ w.modified =
-      one_of refl (sym (ap (option_map (λ e. e.modified)) (entry_at-equal laws w.key key equal contents.entries ∙ found)) ∙ is_tied) in
-      subst (λ m. live_expired (live_nanos policy) m now ≡ true) (sym same) lived
+      let same : expiry_of e ≡ w.deadline =
+      one_of refl (sym (ap (option_map (λ e. expiry_of e)) (entry_at-equal laws w.key key equal contents.entries ∙ found)) ∙ is_tied) in
+      subst (λ m. is_past (live_nanos policy) m now ≡ true) (sym same) lived
 
   -- ---- an entry and those used since
 
@@ -210,24 +211,24 @@ module _ {K V : Type 0} (eq : K → K → Bool) (laws : IsEquivalence eq) where
       let expired = after_expiry eq policy now contents in
       elim (among (λ w. w.key) (take most (take_while (is_past_ttl policy now) contents.written)) contents key) [
         | inl any ↦
-            inr (inl (or_left (live_expired (live_nanos policy) e.modified now) (is_idle policy now e)
+            inr (inl (or_left (is_past (live_nanos policy) (expiry_of e) now) (is_idle policy now e)
             (lived-too-long policy now most contents key e tied found any)))
         | inr stays ↦
             elim (among (λ e. e.key) (take most (take_while (is_idle policy now) (window_of lived.entries))) lived key) [
               | inl any ↦
-                  inr (inl (or_right (live_expired (live_nanos policy) e.modified now) (is_idle policy now e)
+                  inr (inl (or_right (is_past (live_nanos policy) (expiry_of e) now) (is_idle policy now e)
                   (front-passes (is_idle policy now) (λ e. is_window e.part) most lived (window_of lived.entries) key e
                   (part-stands eq laws (λ e. is_window e.part) lived.entries apart) any (stays ∙ found))))
               | inr waits ↦
                   elim (among (λ e. e.key) (take most (take_while (is_idle policy now) (probation_of lived.entries))) waited key) [
                     | inl any ↦
-                        inr (inl (or_right (live_expired (live_nanos policy) e.modified now) (is_idle policy now e)
+                        inr (inl (or_right (is_past (live_nanos policy) (expiry_of e) now) (is_idle policy now e)
                         (front-passes (is_idle policy now) (λ e. is_probation e.part) most lived (probation_of lived.entries) key e
                         (part-stands eq laws (λ e. is_probation e.part) lived.entries apart) any (stays ∙ found))))
                     | inr tries ↦
                         elim (among (λ e. e.key) (take most (take_while (is_idle policy now) (protected_of lived.entries))) tried key) [
                           | inl any ↦
-                              inr (inl (or_right (live_expired (live_nanos policy) e.modified now) (is_idle policy now e)
+                              inr (inl (or_right (is_past (live_nanos policy) (expiry_of e) now) (is_idle policy now e)
                               (front-passes (is_idle policy now) (λ e. is_protected e.part) most lived (protected_of lived.entries) key e
                               (part-stands eq laws (λ e. is_protected e.part) lived.entries apart) any (stays ∙ found))))
                           | inr used ↦
@@ -764,22 +765,22 @@ module _ {K V S W : Type 0} (keys : Keys K S) (laws : IsEquivalence keys.eq) (ke
       ]
 
   -- where a put removes it, it gave way
-  put-cause : (old new cache : CacheState K V S W) (other : K) (value : V) (now : ℕ) (o : Option (Entry K V)) (put : Entry K V)
+  put-cause : (old new cache : CacheState K V S W) (other : K) (value : V) (own : Option ℕ) (now : ℕ) (o : Option (Entry K V)) (put : Entry K V)
       (refused : Refused) → new ≡ after_put keys.eq cache o put refused
       → given_of cache ≡ given_of old → cache.sketch ≡ old.sketch
       → total_weight cache.contents.entries ≤ total_weight old.contents.entries → StandOnce keys.eq cache.contents.entries → put.key ≡ other
       → entry_at keys.eq put.key cache.contents.entries ≡ o → entry_at keys.eq key cache.contents.entries ≡ Some e
       → entry_at keys.eq key new.contents.entries ≡ None
-      → RemovalCause keys old (Insert other value now) new e
-  put-cause old new cache other value now (Some known) put refused is terms sketch less once own there stands none =
+      → RemovalCause keys old (Insert other value own now) new e
+  put-cause old new cache other value own now (Some known) put refused is terms sketch less once its_key there stands none =
       using-stands keys laws key e (room_of cache) (record put { key = known.key; hash = known.hash; part = known.part }) cache.contents
       stands (sym (ap (λ c. entry_at keys.eq key c.contents.entries) is) ∙ none)
-  put-cause old new cache other value now None put refused is terms sketch less once own there stands none =
+  put-cause old new cache other value own now None put refused is terms sketch less once its_key there stands none =
       entering (windowed cache) refl is
     where
       by : (gone : Option (List (Entry K V))) → victims_of cache.settings.policy.max_capacity cache.sketch put cache.contents.entries ≡ gone
           → new.contents.entries ≡ (after_verdict keys.eq cache put gone refused).contents.entries
-          → RemovalCause keys old (Insert other value now) new e
+          → RemovalCause keys old (Insert other value own now) new e
       by None verdict after = something (sym (ap (entry_at keys.eq key) after) ∙ none) stands
       by (Some gone) verdict after =
           let left = after_leaving keys.eq (entry_keys gone) cache.contents in
@@ -798,7 +799,7 @@ module _ {K V S W : Type 0} (keys : Keys K S) (laws : IsEquivalence keys.eq) (ke
                       let (l, limited, full, more) =
                       displaced keys.eq laws cache.settings.policy.max_capacity cache.sketch put cache.contents.entries gone
                       verdict key e any stands in
-                      Displaced other value now l put refl
+                      Displaced other value own now l put refl
                       (sym (same-key keys laws key e cache.contents.entries stands put.key) ∙ differ)
                       (
                       (at put.key ∙ cond-true (keys.eq put.key put.key) (Some put) (entry_at keys.eq put.key left.entries)
@@ -809,7 +810,7 @@ module _ {K V S W : Type 0} (keys : Keys K S) (laws : IsEquivalence keys.eq) (ke
           ]
 
       entering : (limit : Option PartLimits) → windowed cache ≡ limit
-          → new ≡ after_new keys.eq cache limit put refused → RemovalCause keys old (Insert other value now) new e
+          → new ≡ after_new keys.eq cache limit put refused → RemovalCause keys old (Insert other value own now) new e
       entering None limits is =
           by (victims_of cache.settings.policy.max_capacity cache.sketch put cache.contents.entries) refl (ap (λ c. c.contents.entries) is)
       entering (Some limit) limits is =
@@ -824,10 +825,10 @@ module _ {K V S W : Type 0} (keys : Keys K S) (laws : IsEquivalence keys.eq) (ke
           let limits_are : limit ≡ limits_of old.shares l = limit_is ∙ ap (λ t. limits_of t.1 l) terms in
           let main : main_limit limit ≡ main_limit (limits_of old.shares l) = ap main_limit limits_are in
           let gone : entry_at keys.eq key next.contents.entries ≡ None = sym (ap (λ c. entry_at keys.eq key c.entries) after) ∙ none in
-          let grew : IsGrown laws cache next limit put contents → RemovalCause keys old (Insert other value now) new e =
-          λ grown. GivenUp other value now l grown.entered refl
+          let grew : IsGrown laws cache next limit put contents → RemovalCause keys old (Insert other value own now) new e =
+          λ grown. GivenUp other value own now l grown.entered refl
           (ap (λ c. entry_at keys.eq other c.entries) after
-          ∙ (sym (ap (λ k. entry_at keys.eq k next.contents.entries) own) ∙ grown.stands))
+          ∙ (sym (ap (λ k. entry_at keys.eq k next.contents.entries) its_key) ∙ grown.stands))
           grown.waits
           (subst (λ s. old.shares.extra < s.extra) (sym shared) (subst (λ t. t.1.extra < next.shares.extra) terms grown.grown))
           limited
@@ -843,7 +844,7 @@ module _ {K V S W : Type 0} (keys : Keys K S) (laws : IsEquivalence keys.eq) (ke
           )))) in
           elim (entered keys.eq laws keeps limit cache.sketch put cache.contents there once key e stands) [
             | StaysWith x at same ↦ grew (turn-gave-up laws cache cache.memory limit put contents apart key x at gone)
-            | RejectedWith waits above ↦ Rejected other value now l refl waits limited (grind (arith, above, less, main))
+            | RejectedWith waits above ↦ Rejected other value own now l refl waits limited (grind (arith, above, less, main))
             | DisplacedWith x at more above ↦
                 elim (cases_Bool (keys.eq x.key e.key)) [
                   | inl equal ↦
@@ -856,7 +857,7 @@ module _ {K V S W : Type 0} (keys : Keys K S) (laws : IsEquivalence keys.eq) (ke
                       (λ y is.
                       let (z, stood, same) = found-turned keys.eq laws cache cache.memory limit put contents x.key y is in
                       let but : y ≡ record x { part = y.part } = same.but ∙ ap (λ (z : Entry K V). record z { part = y.part }) (one_of stood at) in
-                      Displaced other value now l y refl
+                      Displaced other value own now l y refl
                       (ap (λ (z : Entry K V). keys.eq z.key e.key) but ∙ differ)
                       (ap (λ c. entry_at keys.eq y.key c.entries) after
                       ∙ (ap (λ (z : Entry K V). entry_at keys.eq z.key next.contents.entries) but ∙ is))
@@ -891,16 +892,16 @@ module _ {K V S W : Type 0} (keys : Keys K S) (laws : IsEquivalence keys.eq) (ke
     step-cause old new (ContainsKey other now) answer step tied once found none =
         cleaned old new (ContainsKey other now) now refl tied once found
         (λ stands. something (sym (ap (λ c. entry_at keys.eq key c.contents.entries) step.1) ∙ none) stands)
-    step-cause old new (Insert other value now) answer (inl (done, inserted)) tied once found none =
+    step-cause old new (Insert other value own now) answer (inl (done, inserted)) tied once found none =
         let kept = (after_look keys old now).contents in
-        cleaned old new (Insert other value now) now refl tied once found
+        cleaned old new (Insert other value own now) now refl tied once found
         (λ stands. put-cause old new (record old { weigher = inserted.weigher; capacity = inserted.capacity; contents = kept })
-        other value now
+        other value own now
         (entry_at keys.eq other kept.entries)
-        (new_entry keys old.settings.hash_state other value inserted.weight now) inserted.refused inserted.step refl refl
+        (new_entry keys old.settings other value inserted.weight own now) inserted.refused inserted.step refl refl
         (total-cleanup keys.eq old.settings.policy now old.contents)
         (once-remains keys.eq old.contents kept (remains-cleanup keys.eq old.settings.policy now old.contents) once) refl refl stands none)
-    step-cause old new (Insert other value now) answer (inr (refused, same)) tied once found none =
+    step-cause old new (Insert other value own now) answer (inr (refused, same)) tied once found none =
         something (sym (ap (λ c. entry_at keys.eq key c.contents.entries) same.same) ∙ none) found
     step-cause old new (Invalidate other now) answer step tied once found none =
         cleaned old new (Invalidate other now) now refl tied once found

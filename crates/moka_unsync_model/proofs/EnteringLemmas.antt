@@ -12,6 +12,7 @@ use Rattle.std.specs.List.{AllByRecursion, IsDistinct}
 use Rattle.moka_common.specs.Admission.{outvoted}
 use Rattle.moka_common.specs.Prefix.{shortest_prefix}
 use Rattle.moka_common.specs.Sketch.{Table, estimate}
+use Rattle.moka_unsync_model.specs.Deadline.{expiry_of}
 use Rattle.moka_unsync_model.specs.declared.entry.Entry.{Entry}
 use Rattle.moka_unsync_model.specs.declared.entry.Part.TheVariants.{Probation, Window}
 use Rattle.moka_unsync_model.specs.Contents.{Contents, Write, after_leaving, after_moving, entries_without, entry_at, entry_keys, is_window, main_of}
@@ -201,14 +202,14 @@ module _ {K : Type 0} (eq : K → K → Bool) where
   writes-push : (keeps : Bool) (gone key : K) (now : ℕ) (written : List (Write K)) → eq gone key ≡ false
       → writes_without eq gone (with_write keeps written key now) ≡ with_write keeps (writes_without eq gone written) key now
   writes-push true gone key now written differ =
-      passed-push (λ w. not (eq gone w.key)) written (record { key = key; modified = now }) (ap not differ)
+      passed-push (λ w. not (eq gone w.key)) written (record { key = key; deadline = now }) (ap not differ)
   writes-push false gone key now written differ = refl
 
   -- the write of the key itself leaves again
   writes-pushed : (keeps : Bool) (gone key : K) (now : ℕ) (written : List (Write K)) → eq gone key ≡ true
       → writes_without eq gone (with_write keeps written key now) ≡ writes_without eq gone written
   writes-pushed true gone key now written equal =
-      failed-push (λ w. not (eq gone w.key)) written (record { key = key; modified = now }) (ap not equal)
+      failed-push (λ w. not (eq gone w.key)) written (record { key = key; deadline = now }) (ap not equal)
   writes-pushed false gone key now written equal = refl
 
 module _ {K V : Type 0} (eq : K → K → Bool) (keeps : Bool) (x : Entry K V) where
@@ -218,7 +219,7 @@ module _ {K V : Type 0} (eq : K → K → Bool) (keeps : Bool) (x : Entry K V) w
   without-push gone contents differ =
       λ i. record {
         entries = passed-push (λ e. not (eq gone e.key)) contents.entries x (ap not differ) i;
-        written = writes-push eq keeps gone x.key x.modified contents.written differ i;
+        written = writes-push eq keeps gone x.key (expiry_of x) contents.written differ i;
       }
 
   leaving-push : (gone : List (Entry K V)) (contents : Contents K V) → All (λ g. eq g.key x.key ≡ false) gone
@@ -237,7 +238,7 @@ module _ {K V : Type 0} (eq : K → K → Bool) (keeps : Bool) (x : Entry K V) w
           entries =
               (ap (with_latest entry) (passed-push (λ e. not (eq entry.key e.key)) contents.entries x (ap not differ))
               ∙ latest-push entry (entries_without eq entry.key contents.entries) x main waits) i;
-          written = with_write keeps contents.written x.key x.modified;
+          written = with_write keeps contents.written x.key (expiry_of x);
         }
 
     -- and are judged as before
@@ -405,7 +406,7 @@ module _ {K V : Type 0} (eq : K → K → Bool) (laws : IsEquivalence eq) (keeps
       λ i. record {
         entries = entries-again contents none i;
         written =
-            (writes-pushed eq keeps new.key new.key new.modified contents.written (laws.refl new.key)
+            (writes-pushed eq keeps new.key new.key (expiry_of new) contents.written (laws.refl new.key)
             ∙ passed-all (λ w. not (eq new.key w.key)) contents.written none.written) i;
       }
   candidacy-last (Some gone) contents none others =
@@ -413,7 +414,7 @@ module _ {K V : Type 0} (eq : K → K → Bool) (laws : IsEquivalence eq) (keeps
       ap (after_moving eq (outside new)) (leaving-push eq keeps (inside new) gone contents others)
       ∙ (λ i. record {
         entries = with_latest (outside new) (entries-again left (none-leaving eq new.key (entry_keys gone) contents none) i);
-        written = with_write keeps left.written new.key new.modified;
+        written = with_write keeps left.written new.key (expiry_of new);
       })
 
   candidate-last : (contents : Contents K V) → HasNone eq new.key contents

@@ -8,13 +8,14 @@ use Rattle.std.proofs.lemmas.Map.Keys.{IsDistinct-head, IsDistinct-tail}
 use Rattle.std.specs.Cmp.{IsEquivalence}
 use Rattle.std.specs.List.{AllByRecursion, list_any}
 use Rattle.moka_common.specs.Keys.{Keys}
+use Rattle.moka_unsync_model.specs.Deadline.{end_of}
 use Rattle.moka_common.specs.Policy.{Policy}
 use Rattle.moka_unsync_model.specs.declared.entry.Entry.{Entry}
 use Rattle.moka_unsync_model.specs.declared.constants.TheConstants.{EVICTION_BATCH_SIZE}
 use Rattle.moka_unsync_model.specs.Contents.{Contents, after_leaving, entry_at, entries_without, entry_keys, main_of, total_weight, window_of, without}
 use Rattle.moka_unsync_model.specs.Contents.{is_window, probation_of, protected_of}
 use Rattle.moka_unsync_model.specs.CacheState.{CacheState, new_cache, room_of, windowed}
-use Rattle.moka_common.specs.Settings.{Settings, keeps_writes}
+use Rattle.moka_common.specs.Settings.{Settings, keeps_writes, live_nanos}
 use Rattle.moka_common.specs.Sketch.{Table}
 use Rattle.moka_unsync_model.specs.Cleanup.{after_expiry, after_idle, after_live_expiry, after_trim, after_cleanup, is_past_ttl, is_idle, least_recent}
 use Rattle.moka_unsync_model.specs.Lookup.{after_get, after_use, after_look, unexpired_at, after_using}
@@ -28,7 +29,7 @@ use Rattle.moka_unsync_model.specs.Step.{InvalidateEntriesIf, Iterate, EntryCoun
 use Rattle.moka_unsync_model.specs.History.{ContainsAsGet, Exchange, Transition, chosen_keys, exchanges, HitsAreCurrent, IsCurrent}
 use Rattle.moka_unsync_model.specs.History.{IsLastInsert, LastWrite, LastWritesAreInserts, Leads, PairsAreCurrent, PeekAsGet, PeeksAreCurrent, RemoveAsGet}
 use Rattle.moka_unsync_model.specs.History.{RunsHaveAHistory}
-use Rattle.moka_unsync_model.specs.History.{is_invalidated, is_over, is_written, known_after, last_write, used_at}
+use Rattle.moka_unsync_model.specs.History.{inserted_deadline, is_invalidated, is_over, is_written, known_after, last_write, used_at}
 use Rattle.moka_unsync_model.specs.Removal.{last_write_of}
 use Rattle.moka_unsync_model.proofs.ContentsLemmas.{found_key, absent-leaving}
 use Rattle.moka_unsync_model.proofs.KeyLemmas.{StandOnce, contents-standing, entry_at-gone, none_stand, once-candidacy, once-push, once-remains, once-step}
@@ -354,7 +355,8 @@ module _ {K V S W : Type 0} (keys : Keys K S) (laws : IsEquivalence keys.eq) whe
         → IsStep keys weighs old request answer new
         → StandOnce keys.eq old.contents.entries
         → IsTold keys laws known old.contents.entries
-        → IsTold keys laws (λ key. known_after keys request answer (chosen_keys request old.contents.entries) key
+        → IsTold keys laws (λ key. known_after keys request answer (chosen_keys request old.contents.entries)
+        (inserted_deadline old.settings.policy request) key
         (known key)) new.contents.entries
     told-step old new (Get other now) answer known step once told key e h =
         by (unexpired_at keys.eq old.settings.policy now other (after_look keys old now).contents)
@@ -365,31 +367,33 @@ module _ {K V S W : Type 0} (keys : Keys K S) (laws : IsEquivalence keys.eq) whe
             → ((used : Entry K V) → o ≡ Some used → entry_at keys.eq other (after_look keys old now).contents.entries ≡ Some used)
             → answer ≡ Found (option_map (λ e. e.value) o)
             → entry_at keys.eq key (after_use keys.eq (room_of old) now o (after_look keys old now).contents).entries ≡ Some e
-            → known_after keys (Get other now) answer (chosen_keys (Get other now) old.contents.entries) key (known key) ≡ Some
+            → known_after keys (Get other now) answer (chosen_keys (Get other now) old.contents.entries) 0 key (known key) ≡ Some
             (last_write_of e)
         by None there is h =
-            ap (λ a. known_after keys (Get other now) a (chosen_keys (Get other now) old.contents.entries) key (known key)) is
+            ap (λ a. known_after keys (Get other now) a (chosen_keys (Get other now) old.contents.entries) 0 key (known key)) is
             ∙ told-cleanup known old now told key e h
         by (Some used) there is h =
-            ap (λ a. known_after keys (Get other now) a (chosen_keys (Get other now) old.contents.entries) key (known key)) is
+            ap (λ a. known_after keys (Get other now) a (chosen_keys (Get other now) old.contents.entries) 0 key (known key)) is
             ∙ told-hit keys laws known (room_of old) (after_look keys old now).contents other now used (told-cleanup known old now told)
             (there used refl) key e h
     told-step old new (Peek other now) answer known step once told key e h =
         told key e (sym (ap (λ c. entry_at keys.eq key c.contents.entries) step.1) ∙ h)
     told-step old new (ContainsKey other now) answer known step once told key e h =
         told-cleanup known old now told key e (sym (ap (λ c. entry_at keys.eq key c.contents.entries) step.1) ∙ h)
-    told-step old new (Insert other value now) answer known (inl (done, inserted)) once told key e h =
+    told-step old new (Insert other value own now) answer known (inl (done, inserted)) once told key e h =
         let kept = (after_look keys old now).contents in
-        ap (λ a. known_after keys (Insert other value now) a (chosen_keys (Insert other value now) old.contents.entries) key
+        ap (λ a. known_after keys (Insert other value own now) a (chosen_keys (Insert other value own now) old.contents.entries)
+        (end_of (live_nanos old.settings.policy) own now) key
         (known key)) done
         ∙ told-put known (record old { weigher = inserted.weigher; capacity = inserted.capacity; contents = kept })
         (entry_at keys.eq other kept.entries)
-        (new_entry keys old.settings.hash_state other value inserted.weight now) inserted.refused
+        (new_entry keys old.settings other value inserted.weight own now) inserted.refused
         (told-cleanup known old now told)
         (once-remains keys.eq old.contents kept (remains-cleanup keys.eq old.settings.policy now old.contents) once) refl key e
         (sym (ap (λ c. entry_at keys.eq key c.contents.entries) inserted.step) ∙ h)
-    told-step old new (Insert other value now) answer known (inr (refused, same)) once told key e h =
-        ap (λ a. known_after keys (Insert other value now) a (chosen_keys (Insert other value now) old.contents.entries) key
+    told-step old new (Insert other value own now) answer known (inr (refused, same)) once told key e h =
+        ap (λ a. known_after keys (Insert other value own now) a (chosen_keys (Insert other value own now) old.contents.entries)
+        (end_of (live_nanos old.settings.policy) own now) key
         (known key)) refused ∙ told key e (sym (ap (λ c. entry_at keys.eq key c.contents.entries) same.same) ∙ h)
     told-step old new (Invalidate other now) answer known step once told key e h =
         let kept = (after_look keys old now).contents in
@@ -585,10 +589,13 @@ module _ {K V S W : Type 0} (keys : Keys K S) (weighs : W → K → V → ℕ �
 
 module _ {K V S : Type 0} (keys : Keys K S) (key : K) where
   -- the call is an insert of this write at the key
-  pub record IsInsert (request : Request K V) (answer : Answer K V) (write : LastWrite V) : Type 0 where
+  pub record IsInsert (request : Request K V) (answer : Answer K V) (deadline : ℕ) (write : LastWrite V) : Type 0 where
     pub other : K
-    pub asked : request ≡ Insert other write.value write.written
+    pub own : Option ℕ
+    pub now : ℕ
+    pub asked : request ≡ Insert other write.value own now
     pub accepted : answer ≡ Done
+    pub until : deadline ≡ write.deadline
     pub equal : keys.eq other key ≡ true
 
   -- the call neither writes nor invalidates the key, and before it an equal write was known
@@ -599,40 +606,48 @@ module _ {K V S : Type 0} (keys : Keys K S) (key : K) where
     pub older : LastWrite V
     pub stood : known ≡ Some older
     pub value : older.value ≡ write.value
-    pub written : older.written ≡ write.written
+    pub deadline : older.deadline ≡ write.deadline
 
   kept-used : (now : ℕ) (known : Option (LastWrite V)) (write : LastWrite V) → option_map (used_at now) known ≡ Some write
-      → (older : LastWrite V) × (known ≡ Some older) × (older.value ≡ write.value) × (older.written ≡ write.written)
+      → (older : LastWrite V) × (known ≡ Some older) × (older.value ≡ write.value) × (older.deadline ≡ write.deadline)
   kept-used now None write h = something {o = None} refl h
   kept-used now (Some older) write h =
       let is : used_at now older ≡ write = one_of refl h in
-      (older, refl, ap (λ w. w.value) is, ap (λ w. w.written) is)
+      (older, refl, ap (λ w. w.value) is, ap (λ w. w.deadline) is)
 
-  known-by : (request : Request K V) (answer : Answer K V) (chosen : List K) (known : Option (LastWrite V)) (write : LastWrite V)
-      → known_after keys request answer chosen key known ≡ Some write
-      → IsInsert request answer write ⊎ IsKept request answer chosen known write
-  known-by (Insert other value now) Done chosen known write h =
+  known-by : (request : Request K V) (answer : Answer K V) (chosen : List K) (deadline : ℕ) (known : Option (LastWrite V)) (write : LastWrite V)
+      → known_after keys request answer chosen deadline key known ≡ Some write
+      → IsInsert request answer deadline write ⊎ IsKept request answer chosen known write
+  known-by (Insert other value own now) Done chosen deadline known write h =
       elim (cases_Bool (keys.eq other key)) [
         | inl equal ↦
-            let is : record { value = value; written = now; used = now } ≡ write =
-            one_of (cond-true (keys.eq other key) (Some (record { value = value; written = now; used = now })) known equal) h in
-            inl (record { other = other; asked = λ i. Insert other (is i).value (is i).written; accepted = refl; equal = equal })
+            let is : record { value = value; deadline = deadline; used = now } ≡ write =
+            one_of (cond-true (keys.eq other key) (Some (record { value = value; deadline = deadline; used = now })) known equal) h in
+            inl (record {
+              other = other;
+              own = own;
+              now = now;
+              asked = λ i. Insert other (is i).value own now;
+              accepted = refl;
+              until = ap (λ w. w.deadline) is;
+              equal = equal;
+            })
         | inr differ ↦
             inr (record {
               unwritten = differ;
               valid = refl;
               older = write;
-              stood = sym (cond-false (keys.eq other key) (Some (record { value = value; written = now; used = now })) known differ) ∙ h;
+              stood = sym (cond-false (keys.eq other key) (Some (record { value = value; deadline = deadline; used = now })) known differ) ∙ h;
               value = refl;
-              written = refl;
+              deadline = refl;
             })
       ]
-  known-by (Get other now) (Found (Some value)) chosen known write h =
+  known-by (Get other now) (Found (Some value)) chosen deadline known write h =
       elim (cases_Bool (keys.eq other key)) [
         | inl equal ↦
             let (older, is, same, then) =
             kept-used now known write (sym (cond-true (keys.eq other key) (option_map (used_at now) known) known equal) ∙ h) in
-            inr (record { unwritten = refl; valid = refl; older = older; stood = is; value = same; written = then })
+            inr (record { unwritten = refl; valid = refl; older = older; stood = is; value = same; deadline = then })
         | inr differ ↦
             inr (record {
               unwritten = refl;
@@ -641,33 +656,36 @@ module _ {K V S : Type 0} (keys : Keys K S) (key : K) where
               stood = sym
                   (cond-false (keys.eq other key) (option_map (used_at now) known) known differ) ∙ h;
               value = refl;
-              written = refl;
+              deadline = refl;
             })
       ]
-  known-by request answer chosen known write h =
+  known-by request answer chosen deadline known write h =
       let (valid, is) = left_of (is_invalidated keys request chosen key) known write h in
-      inr (record { unwritten = refl; valid = valid; older = write; stood = is; value = refl; written = refl })
+      inr (record { unwritten = refl; valid = valid; older = write; stood = is; value = refl; deadline = refl })
 
 module _ {K V S : Type 0} (keys : Keys K S) where
   pub last_writes_are_inserts : LastWritesAreInserts keys V
   last_writes_are_inserts [] key write h = something {o = None} refl h
   last_writes_are_inserts (call ∷ earlier) key write h =
-      by (known-by keys key call.request call.answer call.chosen (last_write keys key earlier) write h)
+      by (known-by keys key call.request call.answer call.chosen call.deadline (last_write keys key earlier) write h)
       (last_writes_are_inserts earlier key)
     where
-      by : IsInsert keys key call.request call.answer write
+      by : IsInsert keys key call.request call.answer call.deadline write
           ⊎ IsKept keys key call.request call.answer call.chosen (last_write keys key earlier) write
-          → ((older : LastWrite V) → last_write keys key earlier ≡ Some older → IsLastInsert keys earlier key older.value older.written)
-          → IsLastInsert keys (call ∷ earlier) key write.value write.written
+          → ((older : LastWrite V) → last_write keys key earlier ≡ Some older → IsLastInsert keys earlier key older.value older.deadline)
+          → IsLastInsert keys (call ∷ earlier) key write.value write.deadline
       by (inl insert) rest =
           record {
             since = [];
             insert = call;
             earlier = earlier;
             other = insert.other;
+            own = insert.own;
+            now = insert.now;
             parts = refl;
             asked = insert.asked;
             accepted = insert.accepted;
+            until = insert.until;
             equal = insert.equal;
             unwritten = All-from_recursion _ [] tt;
             valid = All-from_recursion _ [] tt;
@@ -679,9 +697,12 @@ module _ {K V S : Type 0} (keys : Keys K S) where
             insert = before.insert;
             earlier = before.earlier;
             other = before.other;
+            own = before.own;
+            now = before.now;
             parts = ap (λ l. call ∷ l) before.parts;
-            asked = before.asked ∙ (λ i. Insert before.other (kept.value i) (kept.written i));
+            asked = before.asked ∙ (λ i. Insert before.other (kept.value i) before.own before.now);
             accepted = before.accepted;
+            until = before.until ∙ kept.deadline;
             equal = before.equal;
             unwritten =
                 All-cons (λ (e : Exchange K V). is_written keys e.request e.answer key ≡ false) call before.since

@@ -271,14 +271,14 @@ module _ {K V S W : Type 0} (keys : Keys K S) (laws : IsEquivalence keys.eq) (we
   once-step old new (Peek key now) answer step once = subst (λ c. StandOnce keys.eq c.contents.entries) (sym step.1) once
   once-step old new (ContainsKey key now) answer step once =
       once-remains keys.eq old.contents new.contents (looks keys weighs old new (ContainsKey key now) answer tt step).1 once
-  once-step old new (Insert key value now) answer (inl (done, inserted)) once =
+  once-step old new (Insert key value own now) answer (inl (done, inserted)) once =
       let kept = (after_look keys old now).contents in
       let asked : CacheState K V S W = record old { weigher = inserted.weigher; capacity = inserted.capacity; contents = kept } in
       subst (λ c. StandOnce keys.eq c.contents.entries) (sym inserted.step)
       (once-insert keys.eq laws asked (entry_at keys.eq key kept.entries)
-      (new_entry keys old.settings.hash_state key value inserted.weight now) inserted.refused refl
+      (new_entry keys old.settings key value inserted.weight own now) inserted.refused refl
       (once-remains keys.eq old.contents kept (remains-cleanup keys.eq old.settings.policy now old.contents) once))
-  once-step old new (Insert key value now) answer (inr (refused, same)) once =
+  once-step old new (Insert key value own now) answer (inr (refused, same)) once =
       subst (λ c. StandOnce keys.eq c.contents.entries) (sym same.same) once
   once-step old new (Invalidate key now) answer step once =
       once-remains keys.eq old.contents new.contents (invalidations keys weighs old new (Invalidate key now) answer tt step).1 once

@@ -451,15 +451,15 @@ module _ {K V S W : Type 0} (keys : Keys K S) (laws : IsEquivalence keys.eq) (we
   bounded_from limit old kept new less (inl h) = inl (grind (arith, less, h))
   bounded_from limit old kept new less (inr h) = inr h
 
-  bounded_insert : (old new : CacheState K V S W) (limit : ℕ) (key : K) (value : V) (now : ℕ) → HasLimit limit old
-      → IsInserted keys weighs old key value now new
-      → IsBounded keys.eq laws limit old.contents new.contents ⊎ IsUpdate keys weighs old (Insert key value now)
-  bounded_insert old new limit key value now has done =
+  bounded_insert : (old new : CacheState K V S W) (limit : ℕ) (key : K) (value : V) (own : Option ℕ) (now : ℕ) → HasLimit limit old
+      → IsInserted keys weighs old key value own now new
+      → IsBounded keys.eq laws limit old.contents new.contents ⊎ IsUpdate keys weighs old (Insert key value own now)
+  bounded_insert old new limit key value own now has done =
       let kept = after_cleanup keys.eq old.settings.policy now old.contents in
       let found = record old { weigher = done.weigher; capacity = done.capacity; contents = kept } in
-      let entry = new_entry keys old.settings.hash_state key value done.weight now in
+      let entry = new_entry keys old.settings key value done.weight own now in
       elim (cases_Bool (is_some (entry_at keys.eq key kept.entries))) [
-        | inl there ↦ inr (key, value, now, refl, there)
+        | inl there ↦ inr (key, value, own, now, refl, there)
         | inr absent ↦
             inl (subst (λ c. IsBounded keys.eq laws limit old.contents c.contents) (sym done.step)
             (bounded_from limit old.contents kept (after_put keys.eq found (entry_at keys.eq key kept.entries) entry done.refused).contents
@@ -489,9 +489,9 @@ module _ {K V S W : Type 0} (keys : Keys K S) (laws : IsEquivalence keys.eq) (we
   bounded_step old new limit (Peek key now) answer has step = less limit old new old (Peek key now) step.1 (grind (arith))
   bounded_step old new limit (ContainsKey key now) answer has step =
       less limit old new _ (ContainsKey key now) step.1 (total-cleanup keys.eq old.settings.policy now old.contents)
-  bounded_step old new limit (Insert key value now) answer has (inl done) = bounded_insert old new limit key value now has done.1
-  bounded_step old new limit (Insert key value now) answer has (inr refused) =
-      less limit old new (record old { capacity = new.capacity }) (Insert key value now) refused.1.same (grind (arith))
+  bounded_step old new limit (Insert key value own now) answer has (inl done) = bounded_insert old new limit key value own now has done.1
+  bounded_step old new limit (Insert key value own now) answer has (inr refused) =
+      less limit old new (record old { capacity = new.capacity }) (Insert key value own now) refused.1.same (grind (arith))
   bounded_step old new limit (Invalidate key now) answer has step =
       let kept = after_cleanup keys.eq old.settings.policy now old.contents in
       less limit old new _ (Invalidate key now) step.1
@@ -609,13 +609,13 @@ module _ {K V S W : Type 0} (keys : Keys K S) (laws : IsEquivalence keys.eq) (we
       let policy = old.settings.policy in
       within_less limit old new _ within step.1 refl (All-cleanup keys.eq (λ e. e.weight ≡ 1) policy now old.contents within.ones)
       (total-cleanup keys.eq policy now old.contents)
-  within_step limit old new (Insert key value now) answer within (inl step) =
+  within_step limit old new (Insert key value own now) answer within (inl step) =
       let policy = old.settings.policy in
       let kept = after_cleanup keys.eq policy now old.contents in
       let done = step.1 in
       let found = record old { weigher = done.weigher; capacity = done.capacity; contents = kept } in
       subst (IsWithin limit) (sym done.step)
-      (within_put limit found (new_entry keys old.settings.hash_state key value done.weight now) done.refused
+      (within_put limit found (new_entry keys old.settings key value done.weight own now) done.refused
       (record {
         has = within.has;
         ones = All-cleanup keys.eq (λ e. e.weight ≡ 1) policy now old.contents within.ones;
@@ -623,7 +623,7 @@ module _ {K V S W : Type 0} (keys : Keys K S) (laws : IsEquivalence keys.eq) (we
             (arith, total-cleanup keys.eq policy now old.contents, within.fits);
       })
       (each old.weigher done.weigher key value done.weight done.weighed) (entry_at keys.eq key kept.entries) refl)
-  within_step limit old new (Insert key value now) answer within (inr refused) =
+  within_step limit old new (Insert key value own now) answer within (inr refused) =
       subst (IsWithin limit) (sym refused.1.same) (record { has = within.has; ones = within.ones; fits = within.fits })
   within_step limit old new (Invalidate key now) answer within step =
       let policy = old.settings.policy in

@@ -11,8 +11,9 @@ use Rattle.std.specs.Duration.{as_nanos}
 use Rattle.std.specs.List.{AllByRecursion, IsDistinct, list_any}
 use Rattle.std.specs.Option.{option_or}
 use Rattle.moka_common.specs.Keys.{Keys}
-use Rattle.moka_common.specs.Moment.{idle_expired, live_expired}
+use Rattle.moka_common.specs.Moment.{idle_expired, is_past}
 use Rattle.moka_common.specs.Policy.{Policy}
+use Rattle.moka_unsync_model.specs.Deadline.{expiry_of}
 use Rattle.moka_unsync_model.specs.declared.entry.Entry.{Entry}
 use Rattle.moka_unsync_model.specs.declared.constants.TheConstants.{EVICTION_BATCH_SIZE}
 use Rattle.moka_unsync_model.specs.Contents.{Contents, after_leaving, entry_at, entries_without, entry_keys, window_of, with_latest, without, probation_of}
@@ -48,8 +49,8 @@ take_while-none test (x ∷ xs) fails = take_while-cons test x xs ∙ cond-false
 
 module _ (policy : Policy) (lasting : (policy.time_to_live ≡ None) × (policy.time_to_idle ≡ None)) (now : ℕ) where
   -- nothing has lived too long
-  lives : (modified : ℕ) → live_expired (live_nanos policy) modified now ≡ false
-  lives modified = ap (λ o. live_expired (option_map as_nanos o) modified now) lasting.0
+  lives : (deadline : ℕ) → is_past (live_nanos policy) deadline now ≡ false
+  lives deadline = ap (λ o. is_past (option_map as_nanos o) deadline now) lasting.0
 
   -- nor was idle too long
   used : (accessed : ℕ) → idle_expired (idle_nanos policy) accessed now ≡ false
@@ -58,13 +59,13 @@ module _ (policy : Policy) (lasting : (policy.time_to_live ≡ None) × (policy.
   -- no entry is expired
   unexpired-same : {K V : Type 0} (o : Option (Entry K V)) → unexpired policy now o ≡ o
   unexpired-same None = refl
-  unexpired-same (Some e) = cond-false (is_expired policy now e) None (Some e) (λ i. lives e.modified i || used e.accessed i)
+  unexpired-same (Some e) = cond-false (is_expired policy now e) None (Some e) (λ i. lives (expiry_of e) i || used e.accessed i)
 
   -- nothing leaves by time
   pub expiry-same : {K V : Type 0} (eq : K → K → Bool) (contents : Contents K V) → after_expiry eq policy now contents ≡ contents
   expiry-same {K = K} {V = V} eq contents =
       let none_lived : take EVICTION_BATCH_SIZE (take_while (is_past_ttl policy now) contents.written) ≡ [] =
-      ap (take EVICTION_BATCH_SIZE) (take_while-none (is_past_ttl policy now) contents.written (λ w. lives w.modified))
+      ap (take EVICTION_BATCH_SIZE) (take_while-none (is_past_ttl policy now) contents.written (λ w. lives w.deadline))
       ∙ take-nil EVICTION_BATCH_SIZE in
       let none_idle = λ (es : List (Entry K V)). ap (take EVICTION_BATCH_SIZE) (take_while-none (is_idle policy now) es (λ e. used e.accessed))
       ∙ take-nil EVICTION_BATCH_SIZE in
@@ -326,7 +327,7 @@ module _ {K V : Type 0} where
   pairs-unexpired policy unbounded now (e ∷ es) =
       let fresh = filter (λ e. not (is_expired policy now e)) es in
       ap pairs_of (cond-true (not (is_expired policy now e)) (e ∷ fresh) fresh
-      (λ i. not (lives policy (unbounded.1, unbounded.2) now e.modified i || used policy (unbounded.1, unbounded.2) now e.accessed i)))
+      (λ i. not (lives policy (unbounded.1, unbounded.2) now (expiry_of e) i || used policy (unbounded.1, unbounded.2) now e.accessed i)))
       ∙ ap (λ l. (e.key, e.value) ∷ l) (pairs-unexpired policy unbounded now es)
 
 -- ---- what a step does
@@ -409,14 +410,14 @@ module _ {K V S W : Type 0} (keys : Keys K S) (weighs : W → K → V → ℕ �
   terms-step old new (Get other now) answer step = ap terms_of step.1
   terms-step old new (Peek other now) answer step = ap terms_of step.1
   terms-step old new (ContainsKey other now) answer step = ap terms_of step.1
-  terms-step old new (Insert other value now) answer (inl (done, inserted)) =
+  terms-step old new (Insert other value own now) answer (inl (done, inserted)) =
       let kept = (after_look keys old now).contents in
-      let entry = new_entry keys old.settings.hash_state other value inserted.weight now in
+      let entry = new_entry keys old.settings other value inserted.weight own now in
       ap terms_of inserted.step
       ∙ terms-put keys.eq (record old { weigher = inserted.weigher; capacity = inserted.capacity; contents = kept })
       (entry_at keys.eq other kept.entries) entry
       inserted.refused
-  terms-step old new (Insert other value now) answer (inr (refused, same)) = ap terms_of same.same
+  terms-step old new (Insert other value own now) answer (inr (refused, same)) = ap terms_of same.same
   terms-step old new (Invalidate other now) answer step = ap terms_of step.1
   terms-step old new (Remove other now) answer step = ap terms_of step.1
   terms-step old new InvalidateAll answer step = ap terms_of step.1
@@ -443,8 +444,8 @@ module _ {K V S W : Type 0} (keys : Keys K S) (weighs : W → K → V → ℕ �
         ∙ (ap is_some (unexpired-same old.settings.policy (unbounded.1, unbounded.2) now (entry_at keys.eq other old.contents.entries))
         ∙ (told_by_value (entry_at keys.eq other old.contents.entries)
         ∙ ap is_some (sym (value-pairs keys other old.contents.entries)))))
-    answers_as_map old new (Insert other value now) answer unbounded known (inl (done, inserted)) = done
-    answers_as_map old new (Insert other value now) answer unbounded known (inr (refused, same)) = absurd (known refused)
+    answers_as_map old new (Insert other value own now) answer unbounded known (inl (done, inserted)) = done
+    answers_as_map old new (Insert other value own now) answer unbounded known (inr (refused, same)) = absurd (known refused)
     answers_as_map old new (Invalidate other now) answer unbounded known step = step.0
     answers_as_map old new (Remove other now) answer unbounded known step = step.0 ∙ ap Found (found_in_map keys old unbounded other now)
     answers_as_map old new InvalidateAll answer unbounded known step = step.0
@@ -487,8 +488,8 @@ module _ {K V S W : Type 0} (keys : Keys K S) (weighs : W → K → V → ℕ �
     values_as_map old new (Peek other now) answer unbounded known step key = ap (cached_value key) step.1
     values_as_map old new (ContainsKey other now) answer unbounded known step key =
         ap (cached_value key) step.1 ∙ ap (λ c. value_at keys key (pairs_of c.entries)) (look-same keys old unbounded now)
-    values_as_map old new (Insert other value now) answer unbounded known (inl (done, inserted)) key =
-        let entry = new_entry keys old.settings.hash_state other value inserted.weight now in
+    values_as_map old new (Insert other value own now) answer unbounded known (inl (done, inserted)) key =
+        let entry = new_entry keys old.settings other value inserted.weight own now in
         let asked : CacheState K V S W = record old { weigher = inserted.weigher; capacity = inserted.capacity } in
         let put = after_put keys.eq asked (entry_at keys.eq other old.contents.entries) entry inserted.refused in
         ap (cached_value key) inserted.step
@@ -497,7 +498,7 @@ module _ {K V S W : Type 0} (keys : Keys K S) (weighs : W → K → V → ℕ �
         (look-same keys old unbounded now)
         ∙ other_value key (keys.eq other key) (Some value) put.contents.entries old.contents.entries
         (value-inserted laws key asked (entry_at keys.eq other old.contents.entries) entry inserted.refused unbounded.0 refl))
-    values_as_map old new (Insert other value now) answer unbounded known (inr (refused, same)) key = absurd (known refused)
+    values_as_map old new (Insert other value own now) answer unbounded known (inr (refused, same)) key = absurd (known refused)
     values_as_map old new (Invalidate other now) answer unbounded known step key =
         ap (cached_value key) step.1
         ∙ (ap (λ c. value_at keys key (pairs_of (entries_without keys.eq other c.entries))) (look-same keys old unbounded now)

@@ -216,12 +216,12 @@ module _ {K V S W : Type 0} (keys : Keys K S) (weighs : W → K → V → ℕ �
       (ap (λ c. c.contents) step.1) (ordered-look old now ordered)
   ordered-step old new (Peek key now) answer step ordered = subst IsOrdered (sym step.1) ordered
   ordered-step old new (ContainsKey key now) answer step ordered = subst IsOrdered (sym step.1) (ordered-look old now ordered)
-  ordered-step old new (Insert key value now) answer (inl (done, inserted)) ordered =
+  ordered-step old new (Insert key value own now) answer (inl (done, inserted)) ordered =
       let looked = after_look keys old now in
       let asked : CacheState K V S W = record looked { weigher = inserted.weigher; capacity = inserted.capacity } in
-      let entry = new_entry keys old.settings.hash_state key value inserted.weight now in
+      let entry = new_entry keys old.settings key value inserted.weight own now in
       let kept = ordered-look old now ordered in
-      let same = terms-step keys weighs old new (Insert key value now) answer (inl (done, inserted)) in
+      let same = terms-step keys weighs old new (Insert key value own now) answer (inl (done, inserted)) in
       let put = ordered-put keys.eq asked (entry_at keys.eq key looked.contents.entries) entry inserted.refused refl refl
       (record { order = kept.order; main = kept.main }) in
       record {
@@ -230,7 +230,7 @@ module _ {K V S W : Type 0} (keys : Keys K S) (weighs : W → K → V → ℕ �
             λ none. subst (λ c. AreMain c.contents.entries) (sym inserted.step)
             (put.1 (same-windowed old new same none));
       }
-  ordered-step old new (Insert key value now) answer (inr (refused, same)) ordered =
+  ordered-step old new (Insert key value own now) answer (inr (refused, same)) ordered =
       subst IsOrdered (sym same.same) (record { order = ordered.order; main = ordered.main })
   ordered-step old new (Invalidate key now) answer step ordered =
       let looked = after_look keys old now in

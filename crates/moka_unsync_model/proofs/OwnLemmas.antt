@@ -83,16 +83,16 @@ module _ {K V S W : Type 0} (keys : Keys K S) (weighs : W → K → V → ℕ �
       (unexpired-found old.settings.policy now (entry_at keys.eq key kept.entries)) (own-look old now a))
   own-step old new (Peek key now) answer step a = subst AreOwn (sym step.1) a
   own-step old new (ContainsKey key now) answer step a = subst AreOwn (sym step.1) (own-look old now a)
-  own-step old new (Insert key value now) answer (inl (done, inserted)) a =
+  own-step old new (Insert key value own now) answer (inl (done, inserted)) a =
       let kept = (after_look keys old now).contents in
       let asked : CacheState K V S W = record old { weigher = inserted.weigher; capacity = inserted.capacity; contents = kept } in
       subst (λ s. All (IsOwn {V = V} keys s.hash_state) new.contents.entries)
-      (sym (settings-step keys weighs old new (Insert key value now) answer (inl (done, inserted))))
+      (sym (settings-step keys weighs old new (Insert key value own now) answer (inl (done, inserted))))
       (subst (λ c. All (IsOwn {V = V} keys old.settings.hash_state) c.contents.entries) (sym inserted.step)
       (own-put keys old.settings.hash_state asked key (entry_at keys.eq key kept.entries)
-      (new_entry keys old.settings.hash_state key value inserted.weight now) inserted.refused (refl, inserted.small) refl
+      (new_entry keys old.settings key value inserted.weight own now) inserted.refused (refl, inserted.small) refl
       (own-look old now a)))
-  own-step old new (Insert key value now) answer (inr (refused, same)) a = subst AreOwn (sym same.same) a
+  own-step old new (Insert key value own now) answer (inr (refused, same)) a = subst AreOwn (sym same.same) a
   own-step old new (Invalidate key now) answer step a =
       subst AreOwn (sym step.1)
       (All-leaving keys.eq (IsOwn {V = V} keys old.settings.hash_state) (key ∷ []) (after_look keys old now).contents

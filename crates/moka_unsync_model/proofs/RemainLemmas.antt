@@ -2,16 +2,18 @@
 use Rattle.std.proofs.Common.{◌≡◌, ◌-◌, ℕ, Bool, true, false, cond, not, ◌&&◌, List, [], ◌∷◌, filter, map}
 use Rattle.std.proofs.Common.{take, take_while, Option, Some, None, refl, sym, ap, ◌∙◌, inl, inr, subst}
 use Rattle.std.proofs.lemmas.Bool.{cases_Bool, cond-true, cond-false}
+use Rattle.std.proofs.lemmas.List.{length-map}
+use Rattle.std.specs.Cmp.{IsEquivalence}
 use Rattle.moka_common.specs.Keys.{Keys}
 use Rattle.moka_common.specs.Policy.{Policy}
 use Rattle.moka_unsync_model.specs.declared.constants.TheConstants.{EVICTION_BATCH_SIZE}
 use Rattle.moka_unsync_model.specs.Contents.{Contents, after_leaving, entry_keys, no_contents, probation_of, protected_of, total_weight}
 use Rattle.moka_unsync_model.specs.Contents.{window_of, without}
 use Rattle.moka_unsync_model.specs.CacheState.{CacheState}
-use Rattle.moka_unsync_model.specs.Cleanup.{after_expiry, after_idle, after_live_expiry, after_trim, after_cleanup, is_past_ttl, least_recent}
+use Rattle.moka_unsync_model.specs.Cleanup.{after_expiry, after_idle, after_live_expiry, after_trim, after_cleanup, is_expired, is_past_ttl, least_recent}
 use Rattle.moka_unsync_model.specs.Invalidate.{chosen}
-use Rattle.moka_unsync_model.proofs.ContentsLemmas.{idle_keys}
-use Rattle.moka_unsync_model.specs.Laws.{InvalidationsKeepCounts, LooksChangeNothing, Remains}
+use Rattle.moka_unsync_model.proofs.ContentsLemmas.{fail_then, idle_keys}
+use Rattle.moka_unsync_model.specs.Laws.{InvalidationsKeepCounts, LooksChangeNothing, Remains, RemovalsOfExpiredAreInvalidations}
 use Rattle.moka_unsync_model.specs.Step.{Get, Peek, ContainsKey, Insert, Invalidate, Remove, InvalidateAll}
 use Rattle.moka_unsync_model.specs.Step.{InvalidateEntriesIf, Iterate, EntryCount, WeightedSize}
 
@@ -94,7 +96,7 @@ module _ {K V S W : Type 0} (keys : Keys K S) (weighs : W → K → V → ℕ �
   looks old new (Peek key now) answer call step = kept old new old step.1 refl (remains-all old.contents)
   looks old new (ContainsKey key now) answer call step =
       kept old new _ step.1 refl (remains-cleanup keys.eq old.settings.policy now old.contents)
-  looks old new (Insert key value now) answer call step = absurd call
+  looks old new (Insert key value own now) answer call step = absurd call
   looks old new (Invalidate key now) answer call step = absurd call
   looks old new (Remove key now) answer call step = absurd call
   looks old new InvalidateAll answer call step = absurd call
@@ -107,7 +109,7 @@ module _ {K V S W : Type 0} (keys : Keys K S) (weighs : W → K → V → ℕ �
   invalidations old new (Get key now) answer call step = absurd call
   invalidations old new (Peek key now) answer call step = absurd call
   invalidations old new (ContainsKey key now) answer call step = absurd call
-  invalidations old new (Insert key value now) answer call step = absurd call
+  invalidations old new (Insert key value own now) answer call step = absurd call
   invalidations old new (Invalidate key now) answer call step =
       let cleaned = after_cleanup keys.eq old.settings.policy now old.contents in
       kept old new _ step.1 refl
@@ -124,3 +126,11 @@ module _ {K V S W : Type 0} (keys : Keys K S) (weighs : W → K → V → ℕ �
   invalidations old new (Iterate now) answer call step = absurd call
   invalidations old new EntryCount answer call step = absurd call
   invalidations old new WeightedSize answer call step = absurd call
+
+  -- a removal of the expired entries is an invalidation
+  pub removals_of_expired : IsEquivalence keys.eq → RemovalsOfExpiredAreInvalidations keys weighs
+  removals_of_expired laws =
+      record {
+        step = λ old now. ((refl, length-map old.contents.entries (is_expired old.settings.policy now)), refl);
+        fresh = λ old now. fail_then keys.eq laws.refl (is_expired old.settings.policy now) old.contents;
+      }

@@ -4,10 +4,11 @@ use Rattle.std.proofs.Common.{Some, None, option_map, refl, sym, ap, ◌∙◌, 
 use Rattle.std.proofs.lemmas.Bool.{cases_Bool, cond-true, cond-false, false≢true}
 use Rattle.std.specs.Cmp.{IsEquivalence}
 use Rattle.moka_common.specs.Keys.{Keys}
+use Rattle.moka_unsync_model.specs.Deadline.{end_of}
 use Rattle.moka_unsync_model.specs.declared.entry.Entry.{Entry}
 use Rattle.moka_unsync_model.specs.Contents.{Contents, after_leaving, entry_at, entry_keys, total_weight}
 use Rattle.moka_unsync_model.specs.CacheState.{CacheState, new_cache, room_of, windowed}
-use Rattle.moka_common.specs.Settings.{Settings, keeps_writes}
+use Rattle.moka_common.specs.Settings.{Settings, keeps_writes, live_nanos}
 use Rattle.moka_unsync_model.specs.Lookup.{after_use, after_look, unexpired_at, after_using}
 use Rattle.moka_unsync_model.specs.Cleanup.{is_expired, unexpired}
 use Rattle.moka_unsync_model.specs.Insert.{Refused, after_entering, after_new, after_put, after_turn, after_verdict, new_entry}
@@ -15,7 +16,8 @@ use Rattle.moka_unsync_model.specs.Window.{victims_of}
 use Rattle.moka_unsync_model.specs.Invalidate.{chosen}
 use Rattle.moka_unsync_model.specs.Step.{Answer, IsStep, Request, Get, Peek, ContainsKey, Insert, Invalidate, Remove, InvalidateAll}
 use Rattle.moka_unsync_model.specs.Step.{InvalidateEntriesIf, Iterate, EntryCount, WeightedSize, Found}
-use Rattle.moka_unsync_model.specs.History.{LastWrite, Leads, Transition, chosen_keys, exchanges, is_over, is_written, known_after, last_write}
+use Rattle.moka_unsync_model.specs.History.{LastWrite, Leads, Transition, chosen_keys, exchanges, inserted_deadline, is_over, is_written, known_after}
+use Rattle.moka_unsync_model.specs.History.{last_write}
 use Rattle.moka_unsync_model.specs.Removal.{EntriesLeaveForACause, InsertsEnterOrAreRejected, IsMissing}
 use Rattle.moka_unsync_model.specs.Removal.{IsRejected, Leaves, MissesHaveAReason, RemovalCause, last_write_of}
 use Rattle.moka_unsync_model.proofs.ContentsLemmas.{absent-leaving}
@@ -90,18 +92,19 @@ module _ {K V S W : Type 0} (keys : Keys K S) (laws : IsEquivalence keys.eq) (we
   rejected key old new (Get other now) answer step once written none = absurd (false≢true written)
   rejected key old new (Peek other now) answer step once written none = absurd (false≢true written)
   rejected key old new (ContainsKey other now) answer step once written none = absurd (false≢true written)
-  rejected key old new (Insert other value now) answer (inl (done, inserted)) once written none =
+  rejected key old new (Insert other value own now) answer (inl (done, inserted)) once written none =
       let kept = (after_look keys old now).contents in
-      let equal : keys.eq other key ≡ true = sym (ap (λ a. is_written keys (Insert other value now) a key) done) ∙ written in
+      let equal : keys.eq other key ≡ true = sym (ap (λ a. is_written keys (Insert other value own now) a key) done) ∙ written in
       let (l, limited, full) =
       put-rejected (record old { weigher = inserted.weigher; capacity = inserted.capacity; contents = kept })
-      (new_entry keys old.settings.hash_state other value inserted.weight now) inserted.refused
+      (new_entry keys old.settings other value inserted.weight own now) inserted.refused
       (entry_at keys.eq other kept.entries)
       (once-remains keys.eq old.contents kept (remains-cleanup keys.eq old.settings.policy now old.contents) once) refl
       (entry_at-equal laws other key equal _ ∙ (sym (ap (λ c. entry_at keys.eq key c.contents.entries) inserted.step) ∙ none)) in
       record {
         other = other;
         value = value;
+        own = own;
         now = now;
         weight = inserted.weight;
         weigher = inserted.weigher;
@@ -113,8 +116,8 @@ module _ {K V S W : Type 0} (keys : Keys K S) (laws : IsEquivalence keys.eq) (we
         limited = limited;
         no_room = grind (arith, full, total-cleanup keys.eq old.settings.policy now old.contents);
       }
-  rejected key old new (Insert other value now) answer (inr (refused, same)) once written none =
-      absurd (false≢true (sym (ap (λ a. is_written keys (Insert other value now) a key) refused) ∙ written))
+  rejected key old new (Insert other value own now) answer (inr (refused, same)) once written none =
+      absurd (false≢true (sym (ap (λ a. is_written keys (Insert other value own now) a key) refused) ∙ written))
   rejected key old new (Invalidate other now) answer step once written none = absurd (false≢true written)
   rejected key old new (Remove other now) answer step once written none = absurd (false≢true written)
   rejected key old new InvalidateAll answer step once written none = absurd (false≢true written)
@@ -297,16 +300,16 @@ module _ {K V S W : Type 0} (keys : Keys K S) (laws : IsEquivalence keys.eq) (we
       ap (λ c. entry_at keys.eq key c.contents.entries) step.1 ∙ none
   absent-step key old new (ContainsKey other now) answer step once written none =
       ap (λ c. entry_at keys.eq key c.contents.entries) step.1 ∙ absent-cleanup old now key none
-  absent-step key old new (Insert other value now) answer (inl (done, inserted)) once written none =
+  absent-step key old new (Insert other value own now) answer (inl (done, inserted)) once written none =
       let kept = (after_look keys old now).contents in
       ap (λ c. entry_at keys.eq key c.contents.entries) inserted.step
       ∙ absent-put (record old { weigher = inserted.weigher; capacity = inserted.capacity; contents = kept })
-      (new_entry keys old.settings.hash_state other value inserted.weight now) inserted.refused key
+      (new_entry keys old.settings other value inserted.weight own now) inserted.refused key
       (entry_at keys.eq other kept.entries)
       (once-remains keys.eq old.contents kept (remains-cleanup keys.eq old.settings.policy now old.contents) once) refl
-      (sym (ap (λ a. is_written keys (Insert other value now) a key) done) ∙ written)
+      (sym (ap (λ a. is_written keys (Insert other value own now) a key) done) ∙ written)
       (absent-cleanup old now key none)
-  absent-step key old new (Insert other value now) answer (inr (refused, same)) once written none =
+  absent-step key old new (Insert other value own now) answer (inr (refused, same)) once written none =
       ap (λ c. entry_at keys.eq key c.contents.entries) same.same ∙ none
   absent-step key old new (Invalidate other now) answer step once written none =
       ap (λ c. entry_at keys.eq key c.contents.entries) step.1 ∙ absent-leaving keys.eq key (other ∷ [])
@@ -387,12 +390,13 @@ module _ {K V S W : Type 0} (keys : Keys K S) (laws : IsEquivalence keys.eq) (we
 
   -- an accepted insert has its entry then, or was rejected
   pub inserts : InsertsEnterOrAreRejected keys weighs
-  inserts settings shares weigher capacity past call cache key value now (is, step, leads) asked done =
+  inserts settings shares weigher capacity past call cache key value own now (is, step, leads) asked done =
       by (entry_at keys.eq key cache.contents.entries) refl
     where
       by : (o : Option (Entry K V)) → entry_at keys.eq key cache.contents.entries ≡ o
           → ((e : Entry K V) × (entry_at keys.eq key cache.contents.entries ≡ Some e) ×
-          (last_write_of e ≡ record { value = value; written = now; used = now })) ⊎ IsRejected keys weighs call key
+          (last_write_of e ≡ record { value = value; deadline = end_of (live_nanos settings.policy) own now; used = now }))
+          ⊎ IsRejected keys weighs call key
       by None at =
           inr (rejected key call.before call.after call.request call.answer step
           (once-run keys laws weighs settings shares weigher capacity past call.before leads)
@@ -404,6 +408,8 @@ module _ {K V S W : Type 0} (keys : Keys K S) (laws : IsEquivalence keys.eq) (we
             e,
             at,
             one_of (told-run keys laws weighs settings shares weigher capacity (call ∷ past) cache (is, step, leads) key e at)
-                ((λ i. known_after keys (asked i) (done i) (chosen_keys call.request call.before.contents.entries) key known)
-                ∙ cond-true (keys.eq key key) (Some (record { value = value; written = now; used = now })) known (laws.refl key)),
+                ((λ i. known_after keys (asked i) (done i) (chosen_keys call.request call.before.contents.entries)
+                (inserted_deadline (settings-run keys laws weighs settings shares weigher capacity past call.before leads i).policy (asked i)) key known)
+                ∙ cond-true (keys.eq key key)
+                (Some (record { value = value; deadline = end_of (live_nanos settings.policy) own now; used = now })) known (laws.refl key)),
           )

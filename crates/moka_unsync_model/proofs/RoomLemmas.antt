@@ -64,15 +64,15 @@ module _ {K V S W : Type 0} (keys : Keys K S) (weighs : W → K → V → ℕ �
   served_step old new (Get key now) answer room step = served old new _ answer _ (λ e. (cc)) step.0 step.1 refl
   served_step old new (Peek key now) answer room step = served old new old answer _ (λ e. (cc)) step.0 step.1 refl
   served_step old new (ContainsKey key now) answer room step = served old new _ answer _ (λ e. (cc)) step.0 step.1 refl
-  served_step old new (Insert key value now) answer room (inl step) =
+  served_step old new (Insert key value own now) answer room (inl step) =
       let done = step.1 in
       let kept = (after_look keys old now).contents in
-      let entry = new_entry keys old.settings.hash_state key value done.weight now in
+      let entry = new_entry keys old.settings key value done.weight own now in
       served old new _ answer Done (λ e. (cc)) step.0 done.step
       (capacity-put keys.eq (record old { weigher = done.weigher; capacity = done.capacity; contents = kept })
       (entry_at keys.eq key kept.entries)
       entry done.refused ∙ done.kept room)
-  served_step old new (Insert key value now) answer room (inr step) =
+  served_step old new (Insert key value own now) answer room (inr step) =
       let full : old.capacity ≤ length old.contents.entries = step.1.full in absurd (omega arith)
   served_step old new (Invalidate key now) answer room step = served old new _ answer Done (λ e. (cc)) step.0 step.1 refl
   served_step old new (Remove key now) answer room step = served old new _ answer _ (λ e. (cc)) step.0 step.1 refl

@@ -299,15 +299,15 @@ module _ {K V S W : Type 0} (keys : Keys K S) (weighs : W → K → V → ℕ �
       (ap (λ c. c.contents) step.1) (shared-look old now shared)
   shared-step old new (Peek key now) answer step shared = subst IsShared (sym step.1) shared
   shared-step old new (ContainsKey key now) answer step shared = subst IsShared (sym step.1) (shared-look old now shared)
-  shared-step old new (Insert key value now) answer (inl (done, inserted)) shared =
+  shared-step old new (Insert key value own now) answer (inl (done, inserted)) shared =
       let looked = after_look keys old now in
       let asked : CacheState K V S W = record looked { weigher = inserted.weigher; capacity = inserted.capacity } in
       let kept = shared-look old now shared in
       subst IsShared (sym inserted.step)
       (shared-put keys.eq asked (entry_at keys.eq key looked.contents.entries)
-      (new_entry keys old.settings.hash_state key value inserted.weight now) inserted.refused refl
+      (new_entry keys old.settings key value inserted.weight own now) inserted.refused refl
       (record { within = kept.within; free = kept.free }))
-  shared-step old new (Insert key value now) answer (inr (refused, same)) shared =
+  shared-step old new (Insert key value own now) answer (inr (refused, same)) shared =
       subst IsShared (sym same.same) (record { within = shared.within; free = shared.free })
   shared-step old new (Invalidate key now) answer step shared =
       let looked = after_look keys old now in

@@ -7,6 +7,7 @@ use Rattle.std.specs.Cmp.{IsEquivalence}
 use Rattle.std.specs.List.{AllByRecursion, IsDistinct, list_any}
 use Rattle.std.proofs.lemmas.Map.Keys.{IsDistinct-head, IsDistinct-tail}
 use Rattle.moka_common.specs.Keys.{Keys}
+use Rattle.moka_unsync_model.specs.Deadline.{expiry_of}
 use Rattle.moka_unsync_model.specs.declared.entry.Entry.{Entry}
 use Rattle.moka_unsync_model.specs.Contents.{Contents, Write, after_leaving, entry_at}
 use Rattle.moka_unsync_model.specs.Contents.{entry_keys, no_contents, write_of}
@@ -64,7 +65,7 @@ prefix-cons x xs (Some p) = refl
 module _ {K V : Type 0} (eq : K → K → Bool) where
   -- a write is that of the entry at its key
   abbrev pub IsTied : List (Entry K V) → Write K → Type 0
-  IsTied entries write = option_map (λ e. e.modified) (entry_at eq write.key entries) ≡ Some write.modified
+  IsTied entries write = option_map (λ e. expiry_of e) (entry_at eq write.key entries) ≡ Some write.deadline
 
   abbrev pub AllTied : Contents K V → Type 0
   AllTied contents = AllByRecursion (IsTied contents.entries) contents.written
@@ -102,11 +103,11 @@ module _ {K V : Type 0} (eq : K → K → Bool) (laws : IsEquivalence eq) where
   tied-by true contents writes = by contents.written writes.0 writes.1
     where
       tied : (w : Write K) → Some w ≡ option_map write_of (entry_at eq w.key contents.entries) → IsTied eq contents.entries w
-      tied w is = modified (entry_at eq w.key contents.entries) ∙ sym (ap (option_map (λ w. w.modified)) is)
+      tied w is = deadline (entry_at eq w.key contents.entries) ∙ sym (ap (option_map (λ w. w.deadline)) is)
         where
-          modified : (o : Option (Entry K V)) → option_map (λ e. e.modified) o ≡ option_map (λ w. w.modified) (option_map write_of o)
-          modified None = refl
-          modified (Some e) = refl
+          deadline : (o : Option (Entry K V)) → option_map (λ e. expiry_of e) o ≡ option_map (λ w. w.deadline) (option_map write_of o)
+          deadline None = refl
+          deadline (Some e) = refl
 
       each : (all vs : List (Write K)) → ((key : K) → find (λ w. eq key w.key) all ≡ option_map write_of (entry_at eq key contents.entries))
           → AllByRecursion (λ w. find (λ v. eq w.key v.key) all ≡ Some w) vs → AllByRecursion (IsTied eq contents.entries) vs

@@ -264,13 +264,13 @@ module _ {K V S W : Type 0} (keys : Keys K S) (laws : IsEquivalence keys.eq) (we
       (held-look old now calm.held)
   held-step limit old new (Peek key now) answer calm step = subst IsHeld (sym step.1) calm.held
   held-step limit old new (ContainsKey key now) answer calm step = subst IsHeld (sym step.1) (held-look old now calm.held)
-  held-step limit old new (Insert key value now) answer calm (inl (done, inserted)) =
+  held-step limit old new (Insert key value own now) answer calm (inl (done, inserted)) =
       let looked = after_look keys old now in
       let asked : CacheState K V S W = record looked { weigher = inserted.weigher; capacity = inserted.capacity } in
       subst IsHeld (sym inserted.step) (by asked (held-look old now calm.held) (entry_at keys.eq key looked.contents.entries) refl)
     where
       entry : Entry K V
-      entry = new_entry keys old.settings.hash_state key value inserted.weight now
+      entry = new_entry keys old.settings key value inserted.weight own now
 
       one : inserted.weight ≡ 1
       one = each old.weigher inserted.weigher key value inserted.weight inserted.weighed
@@ -297,7 +297,7 @@ module _ {K V S W : Type 0} (keys : Keys K S) (laws : IsEquivalence keys.eq) (we
           held-less cache (after_put keys.eq cache (Some e) entry inserted.refused) refl
           (window-using keys.eq laws (room_of cache) (record entry { key = e.key; hash = e.hash; part = e.part }) e key cache.contents found refl refl
           (one ∙ sym (ones_found keys.eq key cache.contents.entries e ones found))) held
-  held-step limit old new (Insert key value now) answer calm (inr (refused, same)) =
+  held-step limit old new (Insert key value own now) answer calm (inr (refused, same)) =
       held-less old new (ap given_of same.same)
       (subst (λ c. window_weight c.contents.entries ≤ window_weight old.contents.entries) (sym same.same) (no-more _)) calm.held
     where

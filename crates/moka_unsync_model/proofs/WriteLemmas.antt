@@ -44,7 +44,7 @@ use Rattle.moka_unsync_model.proofs.SharingLemmas.{stays_of, turned}
 
 -- a write as an entry without a value, so that what holds of entries holds of writes
 abbrev as_entry : {K : Type 0} → Write K → Entry K (Unit {0})
-as_entry w = record { key = w.key; value = tt; hash = 0; weight = 0; accessed = 0; modified = w.modified; part = Probation }
+as_entry w = record { key = w.key; value = tt; hash = 0; weight = 0; accessed = 0; deadline = w.deadline; part = Probation; outlasts = false }
 
 -- the write of an entry as one
 abbrev again : {K V : Type 0} → Entry K V → Entry K (Unit {0})
@@ -354,16 +354,16 @@ module _ {K V S W : Type 0} (keys : Keys K S) (laws : IsEquivalence keys.eq) (we
       (unexpired-found old.settings.policy now (entry_at keys.eq key kept.entries)) (follow-look old now f))
   follow-step old new (Peek key now) answer step once f = subst Follows (sym step.1) f
   follow-step old new (ContainsKey key now) answer step once f = subst Follows (sym step.1) (follow-look old now f)
-  follow-step old new (Insert key value now) answer (inl (done, inserted)) once f =
+  follow-step old new (Insert key value own now) answer (inl (done, inserted)) once f =
       let kept = (after_look keys old now).contents in
       let asked : CacheState K V S W = record old { weigher = inserted.weigher; capacity = inserted.capacity; contents = kept } in
       subst (λ s. Follow keys.eq laws (keeps_writes s.policy) new.contents)
-      (sym (settings-step keys weighs old new (Insert key value now) answer (inl (done, inserted))))
+      (sym (settings-step keys weighs old new (Insert key value own now) answer (inl (done, inserted))))
       (subst (λ c. Follow keys.eq laws (keeps_writes old.settings.policy) c.contents) (sym inserted.step)
       (follow-put keys.eq laws asked (entry_at keys.eq key kept.entries)
-      (new_entry keys old.settings.hash_state key value inserted.weight now) inserted.refused refl
+      (new_entry keys old.settings key value inserted.weight own now) inserted.refused refl
       (once-remains keys.eq old.contents kept (remains-cleanup keys.eq old.settings.policy now old.contents) once) (follow-look old now f)))
-  follow-step old new (Insert key value now) answer (inr (refused, same)) once f = subst Follows (sym same.same) f
+  follow-step old new (Insert key value own now) answer (inr (refused, same)) once f = subst Follows (sym same.same) f
   follow-step old new (Invalidate key now) answer step once f =
       subst Follows (sym step.1)
       (follow-leaving keys.eq laws (keeps_writes old.settings.policy) (key ∷ []) (after_look keys old now).contents (follow-look old now f))

@@ -1,16 +1,17 @@
 -- What leaves the cache before a call acts: expired entries, and entries above the limit, in batches.
 use Rattle.std.specs.Prelude.{ℕ, ◌-◌, Bool, ◌||◌, List, map, take, take_while, Option, Some, None, unwrap_or, if◌then◌else◌}
-use Rattle.moka_common.specs.Moment.{idle_expired, live_expired}
+use Rattle.moka_common.specs.Moment.{idle_expired, is_past}
 use Rattle.moka_common.specs.Policy.{Policy}
 use Rattle.moka_common.specs.Prefix.{shortest_prefix}
 use Rattle.moka_common.specs.Settings.{live_nanos, idle_nanos}
 use Rattle.moka_unsync_model.specs.declared.constants.TheConstants.{EVICTION_BATCH_SIZE}
+use Rattle.moka_unsync_model.specs.Deadline.{expiry_of}
 use Rattle.moka_unsync_model.specs.declared.entry.Entry.{Entry}
 use Rattle.moka_unsync_model.specs.Contents.{Contents, Write, total_weight, probation_of, protected_of, window_of, entry_keys, after_leaving}
 
--- whether a key was written too long ago
+-- whether a key's deadline has come
 abbrev pub is_past_ttl : {K : Type 0} → Policy → ℕ → Write K → Bool
-is_past_ttl policy now write = live_expired (live_nanos policy) write.modified now
+is_past_ttl policy now write = is_past (live_nanos policy) write.deadline now
 
 -- whether an entry was idle too long
 abbrev pub is_idle : {K V : Type 0} → Policy → ℕ → Entry K V → Bool
@@ -18,7 +19,7 @@ is_idle policy now entry = idle_expired (idle_nanos policy) entry.accessed now
 
 -- whether an entry is expired at a moment, for either reason
 abbrev pub is_expired : {K V : Type 0} → Policy → ℕ → Entry K V → Bool
-is_expired policy now entry = live_expired (live_nanos policy) entry.modified now || idle_expired (idle_nanos policy) entry.accessed now
+is_expired policy now entry = is_past (live_nanos policy) (expiry_of entry) now || idle_expired (idle_nanos policy) entry.accessed now
 
 -- the entry, if there is one and it is not expired
 abbrev pub unexpired : {K V : Type 0} → Policy → ℕ → Option (Entry K V) → Option (Entry K V)

@@ -1,14 +1,15 @@
 -- What a contract sees of a cache's contents: its entries in order of use, and their writes.
 use Rattle.std.specs.Prelude.{◌≡◌, ℕ, zero, suc, ◌-◌, ◌^◌, Bool, true, false, not, List, [], ◌∷◌, sum_by, map, filter, fold, min, Option, if◌then◌else◌}
 use Rattle.std.specs.List.{find}
+use Rattle.moka_unsync_model.specs.Deadline.{expiry_of}
 use Rattle.moka_unsync_model.specs.declared.entry.Entry.{Entry}
 use Rattle.moka_unsync_model.specs.declared.entry.Part.{Part}
 use Rattle.moka_unsync_model.specs.declared.entry.Part.TheVariants.{Probation, Protected, Window}
 
--- a key, and the moment of its last write
+-- a key that was written, and when its entry expires
 pub record Write (K : Type 0) : Type 0 where
   pub key : K
-  pub modified : ℕ
+  pub deadline : ℕ
 
 -- the entries in three parts, main's probation, behind it main's protected, and behind that the window, each in order of use, least recent first; and
 -- the writes in their order, which are kept only with a time to live
@@ -55,7 +56,7 @@ module _ {K V : Type 0} where
 
   -- the write of an entry
   abbrev pub write_of : Entry K V → Write K
-  write_of entry = record { key = entry.key; modified = entry.modified }
+  write_of entry = record { key = entry.key; deadline = expiry_of entry }
 
   -- the entries of main
   abbrev pub main_of : List (Entry K V) → List (Entry K V)

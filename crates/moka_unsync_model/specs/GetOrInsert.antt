@@ -14,7 +14,7 @@ module _ {K V S W : Type 0} (keys : Keys K S) (old : CacheState K V S W) (key : 
   -- a get found nothing, and this value was inserted behind it
   pub record IsPutBehind (weighs : W → K → V → ℕ → W → Type 0) (value : V) (new : CacheState K V S W) : Type 0 where
     pub missed : found_by_get keys old key now ≡ None
-    pub step : IsInserted keys weighs (after_get keys old key now) key value now new
+    pub step : IsInserted keys weighs (after_get keys old key now) key value None now new
 
   -- a get found nothing, and there was no room for an insert behind it
   pub record IsRefusedBehind (new : CacheState K V S W) : Type 0 where

@@ -3,12 +3,14 @@ use Rattle.std.specs.Prelude.{◌≡◌, ◌<◌, ◌≤◌, ◌-◌, ◌^◌, �
 use Rattle.moka_common.specs.Enabling.{after_enabling}
 use Rattle.moka_common.specs.declared.frequency_sketch.enabling.Load.{Load}
 use Rattle.moka_common.specs.Keys.{Keys}
+use Rattle.moka_common.specs.Moment.{deadline_of}
 use Rattle.moka_common.specs.Sketch.{Table}
+use Rattle.moka_unsync_model.specs.Deadline.{expiry_of, is_beyond}
 use Rattle.moka_unsync_model.specs.declared.entry.Entry.{Entry}
 use Rattle.moka_unsync_model.specs.declared.entry.Part.TheVariants.{Probation, Window}
 use Rattle.moka_unsync_model.specs.Contents.{Contents, Write, is_window, total_weight, entry_keys, entry_at, writes_without, after_leaving, with_latest}
 use Rattle.moka_unsync_model.specs.CacheState.{CacheState, room_of, windowed}
-use Rattle.moka_common.specs.Settings.{Settings, keeps_writes}
+use Rattle.moka_common.specs.Settings.{Settings, keeps_writes, live_nanos}
 use Rattle.moka_unsync_model.specs.declared.shares.PartLimits.{PartLimits}
 use Rattle.moka_unsync_model.specs.Lookup.{after_using}
 use Rattle.moka_unsync_model.specs.Cleanup.{after_cleanup}
@@ -18,26 +20,26 @@ use Rattle.moka_unsync_model.specs.Window.{candidates, victims_of, after_candida
 
 -- the writes with one more, where they are kept
 abbrev pub with_write : {K : Type 0} → Bool → List (Write K) → K → ℕ → List (Write K)
-with_write true written key now = written ++ record { key = key; modified = now } ∷ []
-with_write false written key now = written
+with_write true written key deadline = written ++ record { key = key; deadline = deadline } ∷ []
+with_write false written key deadline = written
 
 module _ {K V : Type 0} (eq : K → K → Bool) where
   -- the contents once an entry has another's value, weight and moments: it keeps its key, is used, and is the most recent of the writes
   abbrev pub after_update : Bool → ℕ → Entry K V → Entry K V → Contents K V → Contents K V
   after_update keeps room old new contents =
       record (after_using eq room (record new { key = old.key; hash = old.hash; part = old.part }) contents) {
-        written = with_write keeps (writes_without eq old.key contents.written) old.key new.modified;
+        written = with_write keeps (writes_without eq old.key contents.written) old.key (expiry_of new);
       }
 
   -- the contents once a new entry is the most recent of its part, and of the writes
   abbrev pub after_arrival : Bool → Entry K V → Contents K V → Contents K V
   after_arrival keeps new contents =
-      record { entries = with_latest new contents.entries; written = with_write keeps contents.written new.key new.modified }
+      record { entries = with_latest new contents.entries; written = with_write keeps contents.written new.key (expiry_of new) }
 
   -- the same for one of the window, which is the most recent of all
   abbrev pub after_entry : Bool → Entry K V → Contents K V → Contents K V
   after_entry keeps new contents =
-      record { entries = contents.entries ++ new ∷ []; written = with_write keeps contents.written new.key new.modified }
+      record { entries = contents.entries ++ new ∷ []; written = with_write keeps contents.written new.key (expiry_of new) }
 
   -- the contents once a new entry was admitted in place of these, or was rejected
   abbrev pub after_admission : Bool → Entry K V → Option (List (Entry K V)) → Contents K V → Contents K V
@@ -134,10 +136,19 @@ module _ {K V S W : Type 0} (eq : K → K → Bool) where
       let kept = after_cleanup eq cache.settings.policy now cache.contents in
       after_put (record cache { contents = kept }) (entry_at eq new.key kept.entries) new refused
 
--- the entry of a key, as it is written
-abbrev pub new_entry : {K V S : Type 0} → Keys K S → S → K → V → ℕ → ℕ → Entry K V
-new_entry keys state key value weight now =
-    record { key = key; value = value; hash = keys.hash_of state key; weight = weight; part = Probation; accessed = now; modified = now }
+-- the entry of a key, as it is written then, with its own time to live if it has one
+abbrev pub new_entry : {K V S : Type 0} → Keys K S → Settings S → K → V → ℕ → Option ℕ → ℕ → Entry K V
+new_entry keys settings key value weight own now =
+    record {
+      key = key;
+      value = value;
+      hash = keys.hash_of settings.hash_state key;
+      weight = weight;
+      part = Probation;
+      accessed = now;
+      deadline = deadline_of (live_nanos settings.policy) own now;
+      outlasts = is_beyond (live_nanos settings.policy) own now;
+    }
 
 module _ {K V S W : Type 0} where
   -- there was no room for one more entry, and all is as it was, but that there may be another room
@@ -147,7 +158,7 @@ module _ {K V S W : Type 0} where
 
 module _ {K V S W : Type 0} (keys : Keys K S) where
   -- there was room or it was made, the weigher was asked once, and the entry is put with its answer, whichever tables memory refuses
-  pub record IsInserted (weighs : W → K → V → ℕ → W → Type 0) (old : CacheState K V S W) (key : K) (value : V) (now : ℕ)
+  pub record IsInserted (weighs : W → K → V → ℕ → W → Type 0) (old : CacheState K V S W) (key : K) (value : V) (own : Option ℕ) (now : ℕ)
       (new : CacheState K V S W) : Type 0 where
     pub weight : ℕ
     pub weigher : W
@@ -158,4 +169,4 @@ module _ {K V S W : Type 0} (keys : Keys K S) where
     pub weighed : weighs old.weigher key value weight weigher
     pub small : weight < 2 ^ 32
     pub step : new ≡ after_insert keys.eq (record old { weigher = weigher; capacity = capacity })
-        (new_entry keys old.settings.hash_state key value weight now) now refused
+        (new_entry keys old.settings key value weight own now) now refused

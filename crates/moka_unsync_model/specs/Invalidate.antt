@@ -1,10 +1,11 @@
 -- What invalidations and removals leave.
-use Rattle.std.specs.Prelude.{◌≡◌, ℕ, Bool, true, false, List, [], ◌∷◌}
+use Rattle.std.specs.Prelude.{◌≡◌, ℕ, Bool, true, false, List, [], ◌∷◌, map}
 use Rattle.std.specs.Borrow.{Bor}
 use Rattle.moka_common.specs.Keys.{Keys}
 use Rattle.moka_unsync_model.specs.declared.entry.Entry.{Entry}
 use Rattle.moka_unsync_model.specs.Contents.{after_leaving, entry_keys, except, no_contents}
 use Rattle.moka_unsync_model.specs.CacheState.{CacheState}
+use Rattle.moka_unsync_model.specs.Cleanup.{is_expired}
 use Rattle.moka_unsync_model.specs.Lookup.{after_look}
 
 -- the items that are answered true, one answer an item
@@ -46,3 +47,11 @@ module _ {K V S W : Type 0} (keys : Keys K S) where
   abbrev pub after_invalidate_if : CacheState K V S W → List Bool → CacheState K V S W
   after_invalidate_if cache answers =
       record cache { contents = after_leaving keys.eq (entry_keys (chosen answers cache.contents.entries)) cache.contents }
+
+  -- whether each entry is expired, in order of use
+  abbrev pub expiries : CacheState K V S W → ℕ → List Bool
+  expiries cache now = map (is_expired cache.settings.policy now) cache.contents.entries
+
+  -- the cache once all expired entries have left
+  abbrev pub after_remove_expired : CacheState K V S W → ℕ → CacheState K V S W
+  after_remove_expired cache now = after_invalidate_if cache (expiries cache now)

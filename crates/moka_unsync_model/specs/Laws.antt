@@ -8,12 +8,12 @@ use Rattle.moka_unsync_model.specs.Contents.{Contents, entry_at, entry_keys, is_
 use Rattle.moka_unsync_model.specs.declared.entry.Entry.{Entry}
 use Rattle.moka_unsync_model.specs.declared.entry.Part.TheVariants.{Probation, Protected, Window}
 use Rattle.moka_unsync_model.specs.CacheState.{CacheState, new_cache, room_of, windowed}
-use Rattle.moka_unsync_model.specs.Cleanup.{least_recent}
+use Rattle.moka_unsync_model.specs.Cleanup.{is_expired, least_recent}
 use Rattle.moka_unsync_model.specs.Insert.{IsInserted, after_entering, after_entry, after_turn, gained_by}
 use Rattle.moka_unsync_model.specs.Window.{after_candidate, candidates, given_up, victims_of}
 use Rattle.moka_common.specs.Sketch.{Table}
 use Rattle.moka_common.specs.Settings.{Settings, keeps_writes}
-use Rattle.moka_unsync_model.specs.Invalidate.{after_invalidate, after_invalidate_where}
+use Rattle.moka_unsync_model.specs.Invalidate.{after_invalidate, after_invalidate_where, after_remove_expired, expiries}
 use Rattle.moka_unsync_model.specs.Lookup.{after_get, after_get_where, after_look, found_by_get, found_by_peek, found_where, is_contained}
 use Rattle.moka_unsync_model.specs.Lookup.{is_contained_where, peeked_where, unexpired_at}
 use Rattle.moka_unsync_model.specs.GetOrInsert.{IsGot, IsPutBehind, IsRefusedBehind}
@@ -49,7 +49,7 @@ module _ {K V S W : Type 0} (keys : Keys K S) (weighs : W → K → V → ℕ �
   -- the call is an insert at a key that is there when it acts
   abbrev pub IsUpdate : CacheState K V S W → Request K V → Type 0
   IsUpdate old request =
-      (key : K) × (value : V) × (now : ℕ) × (request ≡ Insert key value now)
+      (key : K) × (value : V) × (own : Option ℕ) × (now : ℕ) × (request ≡ Insert key value own now)
       × IsSome (entry_at keys.eq key (after_look keys old now).contents.entries)
 
   -- a call that leaves more weight than it found, and more than the limit, is an insert at a key that is there
@@ -115,9 +115,10 @@ module _ {K V S W : Type 0} (keys : Keys K S) (weighs : W → K → V → ℕ �
   pub record IsMovedByInsert (limit : ℕ) (old : CacheState K V S W) (request : Request K V) (new : CacheState K V S W) : Type 0 where
     pub key : K
     pub value : V
+    pub own : Option ℕ
     pub now : ℕ
-    pub is : request ≡ Insert key value now
-    pub inserted : IsInserted keys weighs old key value now new
+    pub is : request ≡ Insert key value own now
+    pub inserted : IsInserted keys weighs old key value own now new
     pub moves : MovesBy limit inserted.weight old.shares new.shares
 
   -- from a new cache with a limit, no other call moves it
@@ -219,7 +220,7 @@ module _ {K V : Type 0} where
   IsLook (Get key now) = ⊥
   IsLook (Peek key now) = Unit {0}
   IsLook (ContainsKey key now) = Unit {0}
-  IsLook (Insert key value now) = ⊥
+  IsLook (Insert key value own now) = ⊥
   IsLook (Invalidate key now) = ⊥
   IsLook (Remove key now) = ⊥
   IsLook InvalidateAll = ⊥
@@ -233,7 +234,7 @@ module _ {K V : Type 0} where
   IsInvalidation (Get key now) = ⊥
   IsInvalidation (Peek key now) = ⊥
   IsInvalidation (ContainsKey key now) = ⊥
-  IsInvalidation (Insert key value now) = ⊥
+  IsInvalidation (Insert key value own now) = ⊥
   IsInvalidation (Invalidate key now) = Unit {0}
   IsInvalidation (Remove key now) = Unit {0}
   IsInvalidation InvalidateAll = Unit {0}
@@ -262,6 +263,13 @@ module _ {K V S W : Type 0} (keys : Keys K S) (weighs : W → K → V → ℕ �
       (old new : CacheState K V S W) (request : Request K V) (answer : Answer K V) → IsInvalidation request →
       IsStep keys weighs old request answer new →
       (new.sketch ≡ old.sketch) × Remains old.contents new.contents
+
+  -- a removal of the expired entries is an invalidation by a predicate that chooses just those, and none of what remains is expired
+  pub record RemovalsOfExpiredAreInvalidations : Type 0 where
+    pub step : (old : CacheState K V S W) (now : ℕ) →
+        IsStep keys weighs old (InvalidateEntriesIf (expiries keys old now)) Done (after_remove_expired keys old now)
+    pub fresh : (old : CacheState K V S W) (now : ℕ) →
+        All (λ e. is_expired old.settings.policy now e ≡ false) (after_remove_expired keys old now).contents.entries
 
 -- ---- what leaves before entries of protected
 
@@ -308,9 +316,9 @@ module _ {K V S W : Type 0} (keys : Keys K S) (weighs : W → K → V → ℕ �
     pub got : (old new : CacheState K V S W) (key : K) (value : V) (now : ℕ) → IsGot keys old key now value new
         → Runs keys weighs old (Get key now ∷ []) (Found (Some value) ∷ []) new
     pub inserted : (old new : CacheState K V S W) (key : K) (value : V) (now : ℕ) → IsPutBehind keys old key now weighs value new
-        → Runs keys weighs old (Get key now ∷ Insert key value now ∷ []) (Found None ∷ Done ∷ []) new
+        → Runs keys weighs old (Get key now ∷ Insert key value None now ∷ []) (Found None ∷ Done ∷ []) new
     pub refused : (old new : CacheState K V S W) (key : K) (value : V) (now : ℕ) → IsRefusedBehind keys old key now new
-        → Runs keys weighs old (Get key now ∷ Insert key value now ∷ []) (Found None ∷ OutOfMemory ∷ []) new
+        → Runs keys weighs old (Get key now ∷ Insert key value None now ∷ []) (Found None ∷ OutOfMemory ∷ []) new
 
 -- ---- probes
 

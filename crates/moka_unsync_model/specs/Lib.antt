@@ -1,3 +1,4 @@
+pub mod Deadline
 pub mod Contents
 pub mod Shares
 pub mod Memory

@@ -24,7 +24,7 @@ module _ {K V S : Type 0} (keys : Keys K S) where
   IsMapAnswer pairs (Get key now) answer = answer ≡ Found (value_at key pairs)
   IsMapAnswer pairs (Peek key now) answer = answer ≡ Found (value_at key pairs)
   IsMapAnswer pairs (ContainsKey key now) answer = answer ≡ Truth (is_some (value_at key pairs))
-  IsMapAnswer pairs (Insert key value now) answer = answer ≡ Done
+  IsMapAnswer pairs (Insert key value own now) answer = answer ≡ Done
   IsMapAnswer pairs (Invalidate key now) answer = answer ≡ Done
   IsMapAnswer pairs (Remove key now) answer = answer ≡ Found (value_at key pairs)
   IsMapAnswer pairs InvalidateAll answer = answer ≡ Done
@@ -38,7 +38,7 @@ module _ {K V S : Type 0} (keys : Keys K S) where
   value_after pairs (Get other now) key = value_at key pairs
   value_after pairs (Peek other now) key = value_at key pairs
   value_after pairs (ContainsKey other now) key = value_at key pairs
-  value_after pairs (Insert other value now) key = if keys.eq other key then Some value else value_at key pairs
+  value_after pairs (Insert other value own now) key = if keys.eq other key then Some value else value_at key pairs
   value_after pairs (Invalidate other now) key = if keys.eq other key then None else value_at key pairs
   value_after pairs (Remove other now) key = if keys.eq other key then None else value_at key pairs
   value_after pairs InvalidateAll key = None

@@ -1,12 +1,13 @@
 -- What a contract sees of why an entry is missing. `src/history.rt` promises the laws.
 use Rattle.std.specs.Prelude.{◌≡◌, ◌⊎◌, ◌↔◌, ◌<◌, ℕ, ◌+◌, Bool, true, false, List, [], ◌∷◌, Option, Some, None, if◌then◌else◌}
 use Rattle.moka_common.specs.Keys.{Keys}
-use Rattle.moka_common.specs.Settings.{Settings}
+use Rattle.moka_common.specs.Settings.{Settings, live_nanos}
 use Rattle.moka_common.specs.Sketch.{estimate}
 use Rattle.moka_unsync_model.specs.declared.entry.Entry.{Entry}
 use Rattle.moka_unsync_model.specs.Contents.{entry_at, total_weight, is_window}
 use Rattle.moka_unsync_model.specs.CacheState.{CacheState, new_cache}
 use Rattle.moka_unsync_model.specs.Cleanup.{is_expired}
+use Rattle.moka_unsync_model.specs.Deadline.{end_of, expiry_of}
 use Rattle.moka_unsync_model.specs.Step.{Request, Get, ContainsKey, Insert, Invalidate, Remove, Done, Found}
 use Rattle.moka_unsync_model.specs.History.{LastWrite, Leads, Transition, chosen_keys, exchanges}
 use Rattle.moka_unsync_model.specs.History.{is_invalidated, is_over, is_written, last_write}
@@ -17,14 +18,14 @@ use Rattle.moka_unsync_model.specs.Shares.{limits_of, main_limit}
 abbrev pub cleanup_moment : {K V : Type 0} → Request K V → Option ℕ
 cleanup_moment (Get key now) = Some now
 cleanup_moment (ContainsKey key now) = Some now
-cleanup_moment (Insert key value now) = Some now
+cleanup_moment (Insert key value own now) = Some now
 cleanup_moment (Invalidate key now) = Some now
 cleanup_moment (Remove key now) = Some now
 cleanup_moment request = None
 
 -- what is known of an entry's write
 abbrev pub last_write_of : {K V : Type 0} → Entry K V → LastWrite V
-last_write_of e = record { value = e.value; written = e.modified; used = e.accessed }
+last_write_of e = record { value = e.value; deadline = expiry_of e; used = e.accessed }
 
 -- the entry at a key and those behind it, which leave later: those of its part that were used since, and the later parts
 abbrev pub entries_from : {K V : Type 0} → (K → K → Bool) → K → List (Entry K V) → List (Entry K V)
@@ -43,17 +44,17 @@ module _ {K V S W : Type 0} (keys : Keys K S) where
     AboveLimit : (now limit : ℕ) → cleanup_moment request ≡ Some now → old.settings.policy.max_capacity ≡ Some limit
         → limit < total_weight (entries_from keys.eq e.key old.contents.entries) → RemovalCause old request new e
     -- with an insert, one of another key that is used more stands then, and main has no room for all
-    Displaced : (key : K) (value : V) (now limit : ℕ) (entered : Entry K V) → request ≡ Insert key value now
+    Displaced : (key : K) (value : V) (own : Option ℕ) (now limit : ℕ) (entered : Entry K V) → request ≡ Insert key value own now
         → keys.eq entered.key e.key ≡ false → entry_at keys.eq entered.key new.contents.entries ≡ Some entered
         → estimate old.sketch e.hash < estimate old.sketch entered.hash
         → old.settings.policy.max_capacity ≡ Some limit → main_limit (limits_of old.shares limit) < total_weight old.contents.entries + entered.weight
         → RemovalCause old request new e
     -- with an insert, it was in the window, and main has no room for all
-    Rejected : (key : K) (value : V) (now limit : ℕ) → request ≡ Insert key value now → is_window e.part ≡ true
+    Rejected : (key : K) (value : V) (own : Option ℕ) (now limit : ℕ) → request ≡ Insert key value own now → is_window e.part ≡ true
         → old.settings.policy.max_capacity ≡ Some limit → main_limit (limits_of old.shares limit) < total_weight old.contents.entries
         → RemovalCause old request new e
     -- with an insert, the window grew for the new entry, which stands in it, and main has no room for all any more
-    GivenUp : (key : K) (value : V) (now limit : ℕ) (entered : Entry K V) → request ≡ Insert key value now
+    GivenUp : (key : K) (value : V) (own : Option ℕ) (now limit : ℕ) (entered : Entry K V) → request ≡ Insert key value own now
         → entry_at keys.eq key new.contents.entries ≡ Some entered → is_window entered.part ≡ true
         → old.shares.extra < new.shares.extra
         → old.settings.policy.max_capacity ≡ Some limit → main_limit (limits_of new.shares limit) < total_weight old.contents.entries
@@ -64,11 +65,12 @@ module _ {K V S W : Type 0} (keys : Keys K S) (weighs : W → K → V → ℕ �
   pub record IsRejected (call : Transition K V S W) (key : K) : Type 0 where
     pub other : K
     pub value : V
+    pub own : Option ℕ
     pub now : ℕ
     pub weight : ℕ
     pub weigher : W
     pub limit : ℕ
-    pub insert : call.request ≡ Insert other value now
+    pub insert : call.request ≡ Insert other value own now
     pub equal : keys.eq other key ≡ true
     pub absent : entry_at keys.eq key call.after.contents.entries ≡ None
     pub weighed : weighs call.before.weigher other value weight weigher
@@ -104,11 +106,11 @@ module _ {K V S W : Type 0} (keys : Keys K S) (weighs : W → K → V → ℕ �
   InsertsEnterOrAreRejected =
       (settings : Settings S) (shares : Shares) (weigher : W) (capacity : ℕ) (past : List (Transition K V S W)) (call : Transition K V S W)
       (cache : CacheState K V S W)
-      (key : K) (value : V) (now : ℕ) →
-      Leads keys weighs (new_cache settings shares weigher capacity) (call ∷ past) cache → call.request ≡ Insert key value now →
+      (key : K) (value : V) (own : Option ℕ) (now : ℕ) →
+      Leads keys weighs (new_cache settings shares weigher capacity) (call ∷ past) cache → call.request ≡ Insert key value own now →
       call.answer ≡ Done →
       ((e : Entry K V) × (entry_at keys.eq key cache.contents.entries ≡ Some e)
-      × (last_write_of e ≡ record { value = value; written = now; used = now }))
+      × (last_write_of e ≡ record { value = value; deadline = end_of (live_nanos settings.policy) own now; used = now }))
       ⊎ IsRejected call key
 
   -- from a new cache, a get finds nothing exactly where the key is missing after it for a reason, or its last write is over

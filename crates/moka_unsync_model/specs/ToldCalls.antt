@@ -53,9 +53,9 @@ module _ {L K V S W : Type 0} (hears : L → K → V → Cause → L → Type 0)
   TellsNew (Some there) key value new before after =
       hears before key there.value (cause_at old.settings.policy now there cause.Replaced) after
   TellsNew None key value new before after =
-      (weight : ℕ) × TellsPut hears (main_max (windowed old) (windowed new) old.settings.policy.max_capacity) (is_some
+      (weight : ℕ) × (own : Option ℕ) × TellsPut hears (main_max (windowed old) (windowed new) old.settings.policy.max_capacity) (is_some
       (entry_at keys.eq key new.contents.entries))
-      (new_entry keys old.settings.hash_state key value weight now) kept.entries new.contents.entries before after
+      (new_entry keys old.settings key value weight own now) kept.entries new.contents.entries before after
 
   -- an insert tells of what cleanup removes, and then of what leaves for the entry that is put
   pub record TellsInsert (key : K) (value : V) (new : CacheState K V S W) (before after : L) : Type 0 where

@@ -18,10 +18,12 @@ pub struct Entry<K: Drop, V: Drop> {
     pub value: V,
     pub hash: u64,
     pub accessed: Instant,
-    pub modified: Instant,
+    pub deadline: Instant,
     pub weight: u32,
-    /// It takes bytes beside the weight that are free. It comes last, so that no padding splits the moves of an entry.
+    /// It takes bytes beside the weight that are free, as the next. They come last, so that no padding splits the moves of an entry.
     pub part: Part,
+    /// True if the entry outlasts the moment of its deadline, which is the last one then: its time to live ends after all moments.
+    pub outlasts: bool,
 }
 
 impl<K: Drop, V: Drop> Hashed for Entry<K, V> {

@@ -71,7 +71,7 @@ pub fn replaced_values_are_not_current<K: Eq + Hash, V, S: BuildHasher>()
     ensures { ReplacedValuesAreNotCurrent (keys_by K.Hash S.BuildHasher S.Hasher.Hasher) V }
 {}
 
-/// That an expired entry is answered: a value is not current from the end of its time to live on.
+/// That an expired entry is answered: a value is not current from the end of its time to live on, of its own one or the cache's, whichever is shorter.
 pub fn expired_values_are_not_current<K: Eq + Hash, V, S: BuildHasher>()
     ensures { ExpiredValuesAreNotCurrent (keys_by K.Hash S.BuildHasher S.Hasher.Hasher) V }
 {}

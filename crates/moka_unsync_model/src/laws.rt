@@ -7,7 +7,7 @@ ghost use Rattle.moka_unsync_model.specs.Laws.{EntriesAreOwn, GetsOrInsertsAreRu
 ghost use Rattle.moka_unsync_model.specs.Laws.{FixedSharesStay, InsertsDoLittle, LooksChangeNothing, TurnsAreSmall, WindowStaysWithinBounds};
 ghost use Rattle.moka_unsync_model.specs.Laws.{NeverRefuses, OnlyUpdatesOutgrowLimit, PartsStandInOrder, ProbesActAsKeys, ProtectedGivesWayLast};
 ghost use Rattle.moka_unsync_model.specs.Laws.{ProtectedStaysEmpty, ProtectedStaysWithinShare, StaysWithinLimit, WindowStandsBehind, WindowStaysEmpty};
-ghost use Rattle.moka_unsync_model.specs.Laws.{WritesFollowEntries};
+ghost use Rattle.moka_unsync_model.specs.Laws.{RemovalsOfExpiredAreInvalidations, WritesFollowEntries};
 ghost use Rattle.moka_unsync_model.specs.PlainMap.{RunsAsMap, StepsAsMap};
 
 use moka_common::lookup::Lookup;
@@ -127,6 +127,11 @@ pub fn looks_change_nothing<K: Eq + Hash, V, S: BuildHasher, W: Weigh<K, V>>()
 /// An invalidation keeps what was counted of all keys, and what remains is as it was. So does a removal.
 pub fn invalidations_keep_counts<K: Eq + Hash, V, S: BuildHasher, W: Weigh<K, V>>()
     ensures { InvalidationsKeepCounts (keys_by K.Hash S.BuildHasher S.Hasher.Hasher) W.weighs }
+{}
+
+/// A removal of the expired entries is an invalidation by a predicate that chooses them, so each law of runs speaks of it. No entry is expired after it.
+pub fn removals_of_expired_are_invalidations<K: Eq + Hash, V, S: BuildHasher, W: Weigh<K, V>>()
+    ensures { RemovalsOfExpiredAreInvalidations (keys_by K.Hash S.BuildHasher S.Hasher.Hasher) W.weighs }
 {}
 
 /// Without limit, durations and refusal a call answers as a plain map of the cache's pairs would, and leaves what that would leave.

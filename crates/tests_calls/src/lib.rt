@@ -8,6 +8,8 @@ mod chain;
 #[cfg(test)]
 mod core_hashes;
 #[cfg(test)]
+mod deadlines;
+#[cfg(test)]
 mod deque;
 #[cfg(test)]
 mod engine;

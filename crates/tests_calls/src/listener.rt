@@ -118,6 +118,28 @@ fn an_entry_that_was_expired_leaves_as_such(rt: HostRuntime) -> Result<(), Fail>
     Ok(())
 }
 
+// 2 is written at an earlier moment than 1, and stands behind it. The second removal finds nothing.
+#[test]
+fn an_expired_entry_behind_an_unexpired_one_leaves_once(rt: HostRuntime) -> Result<(), Fail> {
+    let builder = Cache::builder(rt.alloc()).time_to_live(Duration::from_secs(10));
+    let mut cache = builder.eviction_listener(Statistics::default()).build()?;
+    cache.insert(1u64, 1u64, Instant::from_secs(100))?;
+    cache.insert(2, 4, at(0))?;
+    let now = Instant::from_secs(50);
+    cache.remove_expired(now);
+    cache.remove_expired(now);
+    let left = [
+        cache.cache().peek(&1, now).copied(),
+        cache.cache().peek(&2, at(0)).copied(),
+    ];
+    assert_eq!(rt; left, [Some(1), None]);
+    assert_eq!(rt;
+        (cache.cache().entry_count(), digits(cache.listener())),
+        (1, 1000)
+    );
+    Ok(())
+}
+
 // With a hash state of its own. The first count is of the second value, the next one of the removal alone.
 #[test]
 fn a_listener_can_be_changed_between_calls(rt: HostRuntime) -> Result<(), Fail> {

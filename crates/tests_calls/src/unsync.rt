@@ -1,4 +1,4 @@
-// The cache for one thread: its texts, the predicate of an invalidation, and a long run of calls.
+// The cache for one thread: its texts, the predicate of an invalidation, a removal of expired entries, and a long run of calls.
 use moka_common::error::{BuildError, OutOfMemory};
 use moka_common::time::Instant;
 use moka_unsync::builder::CacheBuilder;
@@ -7,6 +7,7 @@ use moka_unsync::runs::{Call, Reply, run};
 use std::alloc::Global;
 use std::rc::Rc;
 use std::test::Fail;
+use std::time::Duration;
 
 fn start() -> Instant {
     Instant::from_nanos(0)
@@ -93,6 +94,40 @@ fn a_predicate_is_asked_once_of_each_entry_in_order_of_use(rt: HostRuntime) -> R
         (asked, cache.entry_count(), cache.weighted_size()),
         (1230, 2, 2)
     );
+    Ok(())
+}
+
+/// Writes a key at 100 seconds and 150 others at 0, which stand behind it in the orders of writing and of use. Returns how many entries there are at 50
+/// seconds, once a key was asked for and once the expired entries are removed.
+fn counts_around_a_removal(builder: CacheBuilder<u64, u64>) -> Result<(u64, u64), Fail> {
+    let mut cache = builder.build()?;
+    cache.insert(150, 150, Instant::from_secs(100))?;
+    for key in 0..150 {
+        cache.insert(key, key, start())?;
+    }
+    let now = Instant::from_secs(50);
+    let _ = cache.contains_key(&150, now);
+    let before = cache.entry_count();
+    cache.remove_expired(now);
+    Ok((before, cache.entry_count()))
+}
+
+// More than a batch of expired entries stand behind an unexpired one, so other calls leave them.
+#[test]
+fn all_expired_entries_leave_at_once(rt: HostRuntime) -> Result<(), Fail> {
+    let ten = Duration::from_secs(10);
+    let live = CacheBuilder::default(rt.alloc()).time_to_live(ten);
+    assert_eq!(rt; counts_around_a_removal(live)?, (151, 1));
+    let idle = CacheBuilder::default(rt.alloc()).time_to_idle(ten);
+    assert_eq!(rt; counts_around_a_removal(idle)?, (151, 1));
+    Ok(())
+}
+
+#[test]
+fn without_a_duration_no_entry_is_expired(rt: HostRuntime) -> Result<(), Fail> {
+    let mut cache = four_keys(rt.alloc())?;
+    cache.remove_expired(Instant::from_nanos(u64::MAX));
+    assert_eq!(rt; cache.entry_count(), 4);
     Ok(())
 }
 

@@ -40,7 +40,7 @@ const REQUEST: &str = "the mode has no such call";
 const WORDS: &str = "the call takes other words, or a number or a value is malformed";
 
 /// Scripts, the numbers of their bad lines, and what is wrong with these.
-const BAD: [(&str, u64, &str); 24] = [
+const BAD: [(&str, u64, &str); 26] = [
     ("", 1, MISSING),
     ("unsync\n", 3, MISSING),
     ("unsync", 1, NO_LINE_FEED),
@@ -62,6 +62,8 @@ const BAD: [(&str, u64, &str); 24] = [
     ("sketch 8\nget 1\n", 2, REQUEST),
     ("core\n0 policy 1\n", 2, REQUEST),
     ("unsync\n0 drop-if\n", 2, WORDS),
+    ("unsync\n0 insert 7 a live 5\n", 2, WORDS),
+    ("sync live 5s\n0 insert 7 a live 5s\n", 2, WORDS),
     ("sync\n0 iter 1\n", 2, WORDS),
     ("sketch 8\ninc -1\n", 2, WORDS),
     ("core\n0 turn 1 2 3\n", 2, WORDS),

@@ -128,10 +128,12 @@ fn reply_to<A: Allocator + Clone + Drop, R: Wait, W: WeighShared<u64, Stored<Tex
 {
     let now = Instant::from_nanos(line.now);
     match line.request {
+        // Lines of this mode have no time to live of their own.
         Request::Insert {
             key,
             text: value,
             weight,
+            ..
         } => {
             let inserted = cache.insert(rt, key, stored_text(value, weight), now);
             push_reply(text, told(inserted))

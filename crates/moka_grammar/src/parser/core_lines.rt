@@ -116,7 +116,8 @@ fn insert_of<A: Allocator + Clone + Drop>(
     };
     let caller = small_number_of(caller)?;
     let key = number_of(key)?;
-    let weight = weight_of(options, behind)?;
+    let (weight, behind) = weight_of(options, behind)?;
+    no_argument(behind)?;
     let text = text_of(alloc, text)?;
     Ok(CoreRequest::Insert {
         caller,

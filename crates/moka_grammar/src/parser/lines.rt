@@ -1,12 +1,13 @@
 // From the words of a line to a request to a cache, and its moment.
 ghost use Rattle.std.specs.Prelude.{map};
-ghost use Rattle.moka_grammar.specs.Reading.{Gives};
+ghost use Rattle.moka_grammar.specs.Reading.{Gives, GivesLeft};
 ghost use Rattle.moka_grammar.specs.ReadingLines.{weight_of, insert_of, invalidate_if_of, bare_of, request_of, line_from_words};
 
 use crate::line::{CacheHeader, CacheOptions, Line, Request};
 use crate::parser::from_words::FromWords;
+use crate::parser::options::span_option;
 use crate::text::Text;
-use crate::words::{LineError, no_argument, number_of, text_of, u32_of, u64_of};
+use crate::words::{LineError, no_argument, number_of, small_number_of, text_of, u64_of};
 use std::alloc::Allocator;
 
 impl<A: Allocator + Clone + Drop> FromWords<A, CacheHeader> for Line<Text<A>> {
@@ -106,9 +107,16 @@ fn insert_of<A: Allocator + Clone + Drop>(
         return Err(LineError::Bad);
     };
     let key = number_of(key)?;
-    let weight = weight_of(options, behind)?;
+    let (weight, behind) = weight_of(options, behind)?;
+    let (live, behind) = span_option(b"live", behind)?;
+    no_argument(behind)?;
     let text = text_of(alloc, text)?;
-    Ok(Request::Insert { key, text, weight })
+    Ok(Request::Insert {
+        key,
+        text,
+        weight,
+        live,
+    })
 }
 
 #[tactic(auto, unfolding(crate::specs::ReadingLines::invalidate_if_of))]
@@ -125,18 +133,20 @@ fn invalidate_if_of<A: Allocator + Clone + Drop>(
     Ok(Request::InvalidateIf { text })
 }
 
-/// Returns the weight that is left, if inserts have one, or else that no word is left.
+/// Returns the weight that comes first, if inserts have one, and the words that are left.
 #[tactic(auto, unfolding(crate::specs::ReadingLines::weight_of))]
-pub(super) fn weight_of(
+pub(super) fn weight_of<'a>(
     options: CacheOptions,
-    arguments: &[&[u8]],
-) -> Result<Option<u32>, LineError>
-    ensures { Gives result (weight_of options (map (λ word. word.now) arguments.now)) }
+    arguments: &'a [&'a [u8]],
+) -> Result<(Option<u32>, &'a [&'a [u8]]), LineError>
+    ensures { GivesLeft result (weight_of options.weighed (map (λ word. word.now) arguments.now)) }
 {
-    if options.weighed {
-        let weight = u32_of(arguments)?;
-        return Ok(Some(weight));
+    if !options.weighed {
+        return Ok((None, arguments));
     }
-    no_argument(arguments)?;
-    Ok(None)
+    let [weight, behind @ ..] = arguments else {
+        return Err(LineError::Bad);
+    };
+    let weight = small_number_of(weight)?;
+    Ok((Some(weight), behind))
 }

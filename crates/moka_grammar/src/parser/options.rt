@@ -48,7 +48,7 @@ fn number_option<'a>(
 
 /// Returns the span after this name, if the name comes first, and the words that are left.
 #[tactic(auto, unfolding(crate::specs::ReadingOptions::option_of))]
-fn span_option<'a>(
+pub(super) fn span_option<'a>(
     name: &[u8],
     arguments: &'a [&'a [u8]],
 ) -> Result<(Option<Span>, &'a [&'a [u8]]), LineError>

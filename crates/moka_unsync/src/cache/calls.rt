@@ -1,24 +1,20 @@
 //! The calls in which entries may leave: by key, by the hash of the key, and with a listener that gets what leaves.
-ghost use Rattle.std.specs.Prelude.{◌≡◌, ⊤, Bool, List, [], None, IfErr, OnErr, OnOk, option_copied};
+ghost use Rattle.std.specs.Prelude.{◌≡◌, ⊤, Bool, List, [], option_copied, true};
 ghost use Rattle.std.specs.Borrow.{sem};
 ghost use Rattle.moka_common.specs.Keys.{hash_by, keys_by};
-ghost use Rattle.moka_unsync_model.specs.Insert.{IsInserted, IsRefused};
+ghost use Rattle.moka_unsync_model.specs.Cleanup.{is_expired};
 ghost use Rattle.moka_unsync_model.specs.Invalidate.{AnswersInTurn, after_invalidate, after_invalidate_all, after_invalidate_if};
-ghost use Rattle.moka_unsync_model.specs.Invalidate.{after_invalidate_where};
+ghost use Rattle.moka_unsync_model.specs.Invalidate.{after_invalidate_where, after_remove_expired};
 ghost use Rattle.moka_unsync_model.specs.Lookup.{after_get, after_get_where, after_look, found_by_get, found_where, is_contained, is_contained_where};
 ghost use Rattle.moka_unsync_model.specs.Told.{TellsWhatLeft};
-ghost use Rattle.moka_unsync_model.specs.ToldCalls.{TellsInsert, TellsInvalidateWhere, TellsLook, TellsRemoveWhere};
-ghost use Rattle.moka_unsync_model.specs.declared.listener.Cause.TheVariants.{Explicit};
+ghost use Rattle.moka_unsync_model.specs.ToldCalls.{TellsInvalidateWhere, TellsLook, TellsRemoveWhere};
+ghost use Rattle.moka_unsync_model.specs.declared.listener.Cause.TheVariants.{Expired, Explicit};
 
-use crate::admission::{admit, insert_into_window};
 use crate::cache::Cache;
-use crate::memory::come;
-use crate::removal::{clear, remove, remove_notifying, remove_where};
-use moka_common::error::InsertError;
+use crate::removal::{clear, remove, remove_expired, remove_notifying, remove_where};
 use moka_common::lookup::Lookup;
 use moka_common::time::Instant;
-use moka_common::weigh::Weigh;
-use moka_unsync_model::entry::{Entry, Part};
+use moka_unsync_model::entry::Entry;
 use moka_unsync_model::listener::{Cause, Listener, NoListener};
 use std::alloc::Allocator;
 use std::hash::{BuildHasher, Hash};
@@ -249,105 +245,25 @@ impl<
     {
         remove_where(&mut self.store, predicate, listener);
     }
-}
 
-impl<
-    K: Eq + Hash + Drop,
-    V: Drop,
-    S: BuildHasher + Drop,
-    W: Weigh<K, V> + Drop,
-    A: Allocator + Clone + Drop,
-> Cache<K, V, S, W, A> {
-    /// Inserts the value at the key, as the most recently used and the most recently written entry. If the key is there already, its entry keeps the first
-    /// key object. A new entry above the capacity may be rejected by the admission policy, which is `Ok` as well. If there is a window, older entries in it
-    /// may leave too.
+    /// Removes all expired entries, including those after unexpired ones in the orders of writing and of use.
     ///
-    /// Memory is reserved first, for an update too, which may need none in the end. If it is refused, nothing was expired, evicted, weighed or stored, an entry
-    /// at the key keeps its value, and the key and value that were handed in are dropped. Otherwise the weigher is called once.
-    pub fn insert(&mut self, key: K, value: V, now: Instant) -> Result<(), InsertError>
-        requires ready { W.ready self.old.weigher }
-        ensures step { OnOk result (IsInserted (keys_by K.Hash S.BuildHasher S.Hasher.Hasher)
-            W.weighs self.old key value now self.new) }
-        ensures err { OnErr result (IsRefused self.old self.new) }
-        ensures error { IfErr result (λ error. error ≡ InsertError.OutOfMemory) }
-        ensures ready { W.ready self.new.weigher }
+    /// Other calls remove at most a batch of `EVICTION_BATCH_SIZE` expired entries from the front of each order. So an expired entry that no call asks for
+    /// may keep its memory for long. This call looks at each entry: it takes time linear in their number, and no memory. Without a duration it does
+    /// nothing. The sketch keeps the keys' counts.
+    pub fn remove_expired(&mut self, now: Instant)
+        ensures step { self.new
+            ≡ after_remove_expired (keys_by K.Hash S.BuildHasher S.Hasher.Hasher) self.old now }
     {
-        let hash = self.hash_of(&key);
-        self.insert_notifying(key, hash, value, now, &mut NoListener)
+        self.remove_expired_notifying(now, &mut NoListener);
     }
 
-    /// Puts the value at the key, as `insert` does, by the key's hash. If it replaces a value, the listener gets the old value with the new key, as
-    /// replaced or, if the value was past a duration, as expired.
-    pub fn insert_notifying<L: Listener<K, V>>(
-        &mut self,
-        key: K,
-        hash: u64,
-        value: V,
-        now: Instant,
-        listener: &mut L,
-    ) -> Result<(), InsertError>
-        requires hashed { hash ≡ (keys_by K.Hash S.BuildHasher S.Hasher.Hasher).hash_of self.old.settings.hash_state key }
-        requires ready { W.ready self.old.weigher }
-        ensures step { OnOk result (IsInserted (keys_by K.Hash S.BuildHasher S.Hasher.Hasher) W.weighs self.old key value now self.new) }
-        ensures err { OnErr result (IsRefused self.old self.new) }
-        ensures error { IfErr result (λ error. error ≡ InsertError.OutOfMemory) }
-        ensures ready { W.ready self.new.weigher }
-        ensures told { OnOk result (TellsInsert L.hears (keys_by K.Hash S.BuildHasher S.Hasher.Hasher)
-            self.old now key value self.new listener.old listener.new) }
-        ensures untold { OnErr result (listener.new ≡ listener.old) }
+    /// Removes all expired entries, as `remove_expired` does. The listener gets them as expired.
+    pub fn remove_expired_notifying<L: Listener<K, V>>(&mut self, now: Instant, listener: &mut L)
+        ensures step { self.new ≡ after_remove_expired (keys_by K.Hash S.BuildHasher S.Hasher.Hasher) self.old now }
+        ensures told { TellsWhatLeft L.hears Expired (λ e. is_expired self.old.settings.policy now e ≡ true)
+            self.old.contents.entries self.new.contents.entries listener.old listener.new }
     {
-        if self.store.reserve(1, self.max_entries).is_err() {
-            return Err(InsertError::OutOfMemory);
-        }
-        self.bounds.clean_up(&mut self.store, now, listener);
-        let entry = Entry {
-            hash,
-            weight: self.weigher.weigh(&key, &value),
-            key,
-            value,
-            part: Part::Probation,
-            accessed: now,
-            modified: now,
-        };
-        match self.store.find(&entry.key, entry.hash) {
-            Some(id) => {
-                let cause = self
-                    .bounds
-                    .cause_at(self.store.get(id), now, Cause::Replaced);
-                let (key, value) = self.store.update(id, entry);
-                listener.removed(key, value, cause);
-            }
-            None => match self.windowed {
-                Some(limits) => {
-                    come(&mut self.memory, self.shares, limits.all, &entry);
-                    let part = insert_into_window(
-                        &mut self.store,
-                        &limits,
-                        &self.sketch,
-                        entry,
-                        &mut self.memory,
-                        listener,
-                    );
-                    self.follow(limits, part, listener);
-                    if part.is_some() {
-                        self.enable_sketch();
-                    }
-                }
-                None => {
-                    let limit = self.bounds.policy().max_capacity();
-                    if admit(
-                        &mut self.store,
-                        limit,
-                        &self.sketch,
-                        entry,
-                        &mut None,
-                        listener,
-                    ) {
-                        self.enable_sketch();
-                    }
-                }
-            },
-        }
-        Ok(())
+        remove_expired(&mut self.store, &self.bounds, now, listener);
     }
 }

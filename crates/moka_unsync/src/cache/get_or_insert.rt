@@ -81,7 +81,7 @@ impl<
         }
         let value = make();
         let copy = copy_of(&value)?;
-        self.insert_notifying(key, hash, value, now, listener)?;
+        self.insert_notifying(key, hash, value, None, now, listener)?;
         Ok(copy)
     }
 
@@ -146,7 +146,7 @@ impl<
         let Ok(copy) = copy_of(&value) else {
             return Err(TryInsertError::OutOfMemory);
         };
-        match self.insert_notifying(key, hash, value, now, listener) {
+        match self.insert_notifying(key, hash, value, None, now, listener) {
             Ok(()) => Ok(copy),
             Err(_) => Err(TryInsertError::OutOfMemory),
         }

@@ -12,6 +12,6 @@ returns-in-Ok-insert_hashed-clause-step c =
     let now : c.from_nanos-now.result ≡ c.args.now = c.from_nanos-now.ensures in
     let got = subst (λ now. IsNumberGet c.args.key now None old missed) now (c.in_default.ensures {u = tt}) in
     let put =
-    subst (λ now. IsNumberInsert c.args.key c.args.otherwise now missed c.insert_hashed.new.self) now (c.in-Ok-insert_hashed.ensures {u = tt}).step in
+    subst (λ now. IsNumberInsert c.args.key c.args.otherwise None now missed c.insert_hashed.new.self) now (c.in-Ok-insert_hashed.ensures {u = tt}).step in
     subst (λ kept. OnOpen kept 0 (Some (Numbers c.insert_hashed.new.self))
     (OnNumbers 0 (TellsGotOrInserted c.args.key c.args.otherwise c.args.now 0 c.args.otherwise))) (sym is) (inr (missed, got, inl (refl, refl, put)))

@@ -1,34 +1,30 @@
-use Rattle.std.proofs.Common.{None, Some, rules, ◌≡◌, ◌++◌, OnOk, option_map, refl, ap, ◌∙◌, subst, inl, inr}
+use Rattle.std.proofs.Common.{None, Some, rules, ◌≡◌, ◌++◌, OnOk, option_map, refl, ap, ◌∙◌, subst}
 use Rattle.std.proofs.lemmas.List.{length-map}
-use Rattle.moka_unsync.specs.Insert.{IsInserted}
 use Rattle.moka_unsync.specs.Invalidate.{after_invalidate_if}
 use Rattle.moka_unsync.specs.Lookup.{found_by_get}
 use Rattle.moka_unsync.specs.Step as machine
-use Rattle.moka_script.specs.Reply.{Done, Found, Truth, Number, Pairs, Limits, OutOfMemory, reply_line}
+use Rattle.moka_script.specs.Reply.{Done, Found, Truth, Number, Pairs, Limits, reply_line}
+use Rattle.moka_script.specs.ReplyValue.{reply_of}
 use Rattle.moka_script.specs.ScriptKeys.{script_keys}
 use Rattle.moka_script.specs.ScriptWeighers.{AnswersRequest}
 use Rattle.moka_script.specs.Stored.{stored_text}
-use Rattle.moka_script.specs.UnsyncRun.{have_text}
-use Rattle.moka_script.proofs.UnsyncRunLemmas.{replied, stored_insert}
+use Rattle.moka_script.specs.UnsyncRun.{TellsInsert, have_text}
+use Rattle.moka_script.proofs.UnsyncRunLemmas.{replied}
 use Rattle.moka_script.proofs.unsync.reply_to.Goals as goal
-use Rattle.moka_script.proofs.unsync.reply_to.Goals.{in-Ok, in-Err}
 
-pub returns-after-inserted-clause-step : goal.returns-after-inserted-clause-step
-returns-after-inserted-clause-step g c =
-    let value : c.stored_text.result ≡ stored_text c.in-Insert.value c.in-Insert.weight = search rules in
-    let answers = subst (AnswersRequest g.W.Weigh.weighs) c.in-Insert.is c.requires.weighs in
-    let weighs = g.W.Weigh.weighs in
-    let cache = c.args.cache.now in
-    elim c.match-inserted.branch [
-      | in-Ok w ↦
-          let step = subst (λ v. IsInserted script_keys weighs cache c.in-Insert.key v c.from_nanos-now.result c.insert-inserted.new.self)
-          value w.in-Ok.ensures.step in
-          replied _ _ _ _ _ _ c.push_reply.result _ _ Done c.from_nanos-now.ensures c.in-Insert.is
-          (machine.Done, inl (refl, stored_insert weighs _ _ _ _ _ answers step), refl) (rw w.reply-is at c.push_reply.ensures)
-      | in-Err w ↦
-          replied _ _ _ _ _ _ c.push_reply.result _ _ OutOfMemory c.from_nanos-now.ensures c.in-Insert.is
-          (machine.OutOfMemory, inr (refl, w.in-Err.ensures.err), refl) (rw w.reply-is at c.push_reply.ensures)
-    ]
+-- what is stored is the text with its weight
+pub insert-reply-requires-clause-weighs : goal.insert-reply-requires-clause-weighs
+insert-reply-requires-clause-weighs g c =
+    let value : c.stored_text-stored.result ≡ stored_text c.in-Insert.value c.in-Insert.weight = search rules in
+    rw value (subst (AnswersRequest g.W.Weigh.weighs) c.in-Insert.is c.requires.weighs)
+
+pub returns-in-Insert-clause-step : goal.returns-in-Insert-clause-step
+returns-in-Insert-clause-step g c =
+    let value : c.stored_text-stored.result ≡ stored_text c.in-Insert.value c.in-Insert.weight = search rules in
+    let step : TellsInsert c.args.cache.now c.in-Insert.key (stored_text c.in-Insert.value c.in-Insert.weight) c.in-Insert.live c.from_nanos-now.result
+    (reply_of c.insert-reply.result) c.insert-reply.new.cache = search rules in
+    replied _ _ _ _ _ _ c.push_reply.result _ _ (reply_of c.insert-reply.result) c.from_nanos-now.ensures c.in-Insert.is
+    step c.push_reply.ensures
 
 pub returns-in-ContainsKey-clause-step : goal.returns-in-ContainsKey-clause-step
 returns-in-ContainsKey-clause-step g c =

@@ -1,4 +1,5 @@
-use Rattle.std.proofs.Common.{◌∙◌, ◌∷◌, [], refl}
+use Rattle.std.proofs.Common.{◌∙◌, ◌∷◌, [], option_map, refl}
+use Rattle.std.specs.Duration.{as_nanos}
 use Rattle.moka_common.specs.Keys.{Keys, keys_by}
 use Rattle.moka_unsync_model.specs.Step.{Insert}
 use Rattle.moka_segments.specs.Tells.{answer_of}
@@ -41,21 +42,25 @@ its_cache g c =
 its_call : (g : Over) (c : After-of-after g) → Called (keys_of g) g.W.Weighing.weighs g.P.Rule.rules g.W.Weighing.ready
     c.args.shared.now.table.shared.key c.place_of-hash.result.1 c.args.me.now.me.0 c.lock.new.me.me c.slot_mut-cache.result.now
     c.insert_notifying-found.new.self
-    (call_of c.slot_mut-cache.result.now (Insert c.args.key c.args.value c.args.now) (answer_of c.insert_notifying-found.result)
+    (call_of c.slot_mut-cache.result.now (Insert c.args.key c.args.value (option_map as_nanos c.args.time_to_live) c.args.now)
+    (answer_of c.insert_notifying-found.result)
     c.insert_notifying-found.new.self ∷ [])
-    (call_of c.of-before.result.value (Insert c.of-asked.result.value c.of-given.result.value c.args.now) (answer_of c.insert_notifying-found.result)
+    (call_of c.of-before.result.value (Insert c.of-asked.result.value c.of-given.result.value (option_map as_nanos c.args.time_to_live) c.args.now)
+    (answer_of c.insert_notifying-found.result)
     c.of-after.result.value ∷ [])
 its_call g c = record {
   entered = its_cache g c;
   leads = (
     refl,
-    insert_step (keys_of g) g.W.Weighing.weighs c.slot_mut-cache.result.now c.insert_notifying-found.new.self c.args.key c.args.value c.args.now
-        c.insert_notifying-found.result c.insert_notifying-found.ensures.step c.insert_notifying-found.ensures.err,
+    insert_step (keys_of g) g.W.Weighing.weighs c.slot_mut-cache.result.now c.insert_notifying-found.new.self c.args.key c.args.value
+        (option_map as_nanos c.args.time_to_live) c.args.now c.insert_notifying-found.result c.insert_notifying-found.ensures.step
+        c.insert_notifying-found.ensures.err,
     refl,
   );
   befit = ((c.place_of-hash.ensures.place, tt), ((c.requires.holds, c.requires.owns), tt));
   can = c.insert_notifying-found.ensures.ready;
-  noted = λ j. call_of (c.of-before.ensures j) (Insert (c.of-asked.ensures j) (c.of-given.ensures j) c.args.now) (answer_of c.insert_notifying-found.result)
+  noted = λ j. call_of (c.of-before.ensures j) (Insert (c.of-asked.ensures j) (c.of-given.ensures j) (option_map as_nanos c.args.time_to_live) c.args.now)
+      (answer_of c.insert_notifying-found.result)
       (c.of-after.ensures j) ∷ [];
 }
 

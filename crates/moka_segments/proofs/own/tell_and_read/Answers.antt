@@ -1,4 +1,4 @@
-use Rattle.std.proofs.Common.{◌≡◌, ◌∙◌, ap, subst}
+use Rattle.std.proofs.Common.{None, ◌≡◌, ◌∙◌, ap, subst}
 use Rattle.moka_common.specs.Keys.{keys_by}
 use Rattle.moka_unsync_model.specs.Step.{Insert}
 use Rattle.moka_row.specs.Kept.{Hears}
@@ -18,7 +18,7 @@ returns g c =
       found = finds_told keys g.W.Weighing.weighs g.P.Rule.rules plan g.met.K.Eq.laws g.V.Clone.is_clone v c.insert.new.self.knows c.args.reader.now.knows
           c.learn.new.self.knows c.get.new.self.knows c.args.key
           c.args.value c.args.now c.in-Ok-get.found
-          (subst (λ r. Makes keys g.W.Weighing.weighs g.P.Rule.rules plan v (place_of plan keys c.args.key) (Insert c.args.key c.args.value c.args.now)
+          (subst (λ r. Makes keys g.W.Weighing.weighs g.P.Rule.rules plan v (place_of plan keys c.args.key) (Insert c.args.key c.args.value None c.args.now)
           (answer_of r) c.insert.new.self.knows) c.in-Ok.is
           c.insert.ensures.made.made)
           (subst (λ l. Hears c.args.reader.now.knows l c.learn.new.self.knows) (ap (λ n. n.seen) c.note.ensures.note) c.learn.ensures.told)

@@ -1,4 +1,4 @@
-use Rattle.std.proofs.Common.{ap, subst}
+use Rattle.std.proofs.Common.{None, ap, subst}
 use Rattle.moka_common.specs.Keys.{keys_by}
 use Rattle.moka_unsync_model.specs.Step.{Insert}
 use Rattle.moka_segments.specs.Plan.{place_of}
@@ -14,7 +14,7 @@ returns-clause-found g c =
     let v = c.args.me.now.knows in
     finds_own keys g.W.Weighing.weighs g.P.Rule.rules plan g.met.K.Eq.laws g.met.P.Rule.agree g.V.Clone.is_clone v c.insert.new.self.knows c.get.new.self.knows
     c.args.key c.args.value c.args.now c.in-Ok-get.found
-    (subst (λ r. Makes keys g.W.Weighing.weighs g.P.Rule.rules plan v (place_of plan keys c.args.key) (Insert c.args.key c.args.value c.args.now)
+    (subst (λ r. Makes keys g.W.Weighing.weighs g.P.Rule.rules plan v (place_of plan keys c.args.key) (Insert c.args.key c.args.value None c.args.now)
     (answer_of r) c.insert.new.self.knows) c.in-Ok.is
     c.insert.ensures.made.made)
     (subst (λ r. Gets keys g.W.Weighing.weighs g.P.Rule.rules plan g.V.Clone.is_clone c.insert.new.self.knows c.args.key c.args.now r c.get.new.self.knows)

@@ -1,4 +1,5 @@
-use Rattle.std.proofs.Common.{◌∙◌, refl, rules}
+use Rattle.std.proofs.Common.{option_map, refl, rules, ◌∙◌}
+use Rattle.std.specs.Duration.{as_nanos}
 use Rattle.moka_unsync_model.specs.Insert.{IsInserted}
 use Rattle.moka_unsync_model.specs.ToldCalls.{TellsInsert}
 use Rattle.mini_moka_c.specs.ByteKeys.{byte_keys, byte_weighs}
@@ -14,9 +15,10 @@ returns-clause-answer c =
     let old = c.args.self.now in
     let new = c.insert_notifying.new in
     let before = record old.leaving { inserted = Stored } in
-    let step : IsInserted byte_keys byte_weighs old.cache c.args.key.now c.args.value.now c.args.now new.self = search rules in
+    let step : IsInserted byte_keys byte_weighs old.cache c.args.key.now c.args.value.now
+    (option_map as_nanos c.args.time_to_live) c.args.now new.self = search rules in
     let told : TellsInsert hears_leaving byte_keys old.cache c.args.now c.args.key.now c.args.value.now new.self before new.listener = search rules in
-    bytes_answered old.cache new.self c.args.key.now c.args.value.now c.args.now before new.listener refl step told
+    bytes_answered old.cache new.self c.args.key.now c.args.value.now (option_map as_nanos c.args.time_to_live) c.args.now before new.listener refl step told
 
 pub returns-clause-step : goal.returns-clause-step
 returns-clause-step c =

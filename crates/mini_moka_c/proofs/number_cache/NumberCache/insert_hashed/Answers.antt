@@ -1,4 +1,5 @@
-use Rattle.std.proofs.Common.{◌∙◌, refl, rules}
+use Rattle.std.proofs.Common.{option_map, refl, rules, ◌∙◌}
+use Rattle.std.specs.Duration.{as_nanos}
 use Rattle.moka_unsync_model.specs.Insert.{IsInserted}
 use Rattle.moka_unsync_model.specs.ToldCalls.{TellsInsert}
 use Rattle.mini_moka_c.specs.NumberCalls.{weighs_one}
@@ -15,9 +16,10 @@ returns-clause-answer c =
     let old = c.args.self.now in
     let new = c.insert_notifying.new in
     let before = record old.leaving { inserted = Stored } in
-    let step : IsInserted number_keys weighs_one old.cache c.args.key c.args.value c.args.now new.self = search rules in
+    let step : IsInserted number_keys weighs_one old.cache c.args.key c.args.value
+    (option_map as_nanos c.args.time_to_live) c.args.now new.self = search rules in
     let told : TellsInsert hears_leaving number_keys old.cache c.args.now c.args.key c.args.value new.self before new.listener = search rules in
-    numbers_answered old.cache new.self c.args.key c.args.value c.args.now before new.listener refl step told
+    numbers_answered old.cache new.self c.args.key c.args.value (option_map as_nanos c.args.time_to_live) c.args.now before new.listener refl step told
 
 pub returns-clause-step : goal.returns-clause-step
 returns-clause-step c =

@@ -1,5 +1,6 @@
 use Rattle.std.proofs.Common.{[]}
-use Rattle.mini_moka_c.proofs.QueueLemmas.{clearing_queued}
+use Rattle.moka_unsync_model.specs.declared.listener.Cause.TheVariants.{Explicit}
+use Rattle.mini_moka_c.proofs.QueueLemmas.{leaving_queued}
 use Rattle.mini_moka_c.proofs.StatisticsLemmas.{clearing_counted}
 use Rattle.mini_moka_c.proofs.number_cache.NumberCache.invalidate_all.Goals as goal
 
@@ -11,4 +12,4 @@ returns-clause-counts c =
 pub returns-clause-removed : goal.returns-clause-removed
 returns-clause-removed c =
     let old = c.args.self.now in
-    clearing_queued old.cache.contents.entries [] old.leaving c.invalidate_all_notifying.new.listener c.invalidate_all_notifying.ensures.told
+    leaving_queued Explicit old.cache.contents.entries [] old.leaving c.invalidate_all_notifying.new.listener c.invalidate_all_notifying.ensures.told

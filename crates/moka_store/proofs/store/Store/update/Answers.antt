@@ -1,5 +1,6 @@
 use Rattle.std.proofs.Common.{◌≡◌, ◌∙◌, ◌<◌, ◌^◌, ap, is_some, nat_eq, refl, subst, sym}
 use Rattle.std.specs.Map.{remove_entry}
+use Rattle.moka_unsync_model.specs.Deadline.{expiry_of}
 use Rattle.moka_unsync_model.specs.Contents.{writes_without}
 use Rattle.moka_unsync_model.specs.Insert.{with_write}
 use Rattle.moka_store.specs.Nodes.{IsStored, latest_node, written_under}
@@ -101,7 +102,7 @@ returns-clause-step g c =
     c.balance.ensures.step
     ∙ (λ i. with_write c.self.inside.keeps_writes
     (writes_without g.K.PartialEq.eq x.key (written_under c.self.inside.entries.items c.self.inside.writes.ids))
-    (c.rewrite-left.ensures.entry i).key (c.rewrite-left.ensures.entry i).modified))))
+    (c.rewrite-left.ensures.entry i).key (expiry_of (c.rewrite-left.ensures.entry i))))))
 
 pub write_again-requires : goal.write_again-requires
 write_again-requires g c kept = is_written c.self.invariant.0.written c.args.id (ap is_some c.get_mut-entry.ensures.value) kept

@@ -1,5 +1,6 @@
 use Rattle.std.proofs.Common.{◌≡◌, ◌∙◌, ◌<◌, ◌≤◌, ◌+◌, ℕ, Bool, Option, None, Some, ap, arith, is_some, length, min, option_map, false, refl, rules, subst, sym}
 use Rattle.std.proofs.Common.{true, unwrap_or}
+use Rattle.std.specs.Duration.{as_nanos}
 use Rattle.moka_common.specs.Settings.{keeps_writes}
 use Rattle.moka_unsync_model.specs.CacheState.{CacheState, windowed}
 use Rattle.moka_unsync_model.specs.Contents.{entry_at, main_of}
@@ -93,7 +94,8 @@ its_entry g c hash = record {
   weight = c.weigh.result;
   part = Probation;
   accessed = c.args.now;
-  modified = c.args.now;
+  deadline = c.deadline-deadline.result;
+  outlasts = c.is_beyond-outlasts.result;
 }
 
 abbrev its_hash : (g : Over) (c : After-weigh g) → ℕ
@@ -189,7 +191,7 @@ its_capacity g c fits =
 inserted : (g : Over) (c : After-weigh g) (refused : Refused) (new : CacheState g.row.K.Denot g.row.V.Denot g.row.S.Denot g.row.W.Denot)
     → new ≡ after_insert g.K.PartialEq.eq (its_cache g c) (its_entry g c (its_hash g c)) c.args.now refused
     → IsInserted (keys_by (record { eq = g.K.PartialEq.eq; hash_input = g.K.Hash.hash_input }) g.S.BuildHasher g.S.Hasher.Hasher) g.W.Weigh.weighs
-    (its_start g c) c.args.key c.args.value c.args.now new
+    (its_start g c) c.args.key c.args.value (option_map as_nanos c.args.time_to_live) c.args.now new
 inserted g c refused new step =
     record {
       weight = c.weigh.result;
@@ -200,7 +202,11 @@ inserted g c refused new step =
       kept = its_capacity g c;
       weighed = search rules;
       small = search rules;
-      step = step;
+      step =
+          step
+          ∙ (λ i. after_insert g.K.PartialEq.eq (its_cache g c)
+          (record (its_entry g c (its_hash g c)) { deadline = c.deadline-deadline.ensures i; outlasts = c.is_beyond-outlasts.ensures i })
+          c.args.now refused);
     }
 
 pub returns-in-Some-clause-step : goal.returns-in-Some-clause-step
@@ -429,9 +435,13 @@ its_told : (g : Over) (c : After-weigh g) (limit : Option ℕ) (stays : Bool) (n
 its_told g c limit stays new after limited absent stands put =
     let keys = keys_by (record { eq = g.K.PartialEq.eq; hash_input = g.K.Hash.hash_input }) g.S.BuildHasher g.S.Hasher.Hasher in
     put_told g.L.Listener.hears keys (its_start g c) new c.args.now c.args.key c.args.value (contents_of c.clean_up.new.store) c.args.listener.now
-    c.clean_up.new.listener after (its_contents g c) (its_cleanup g c) c.weigh.result limit stays limited absent stands
+    c.clean_up.new.listener after (its_contents g c) (its_cleanup g c) c.weigh.result (option_map as_nanos c.args.time_to_live) limit stays limited absent
+    stands
+    (subst (λ (d : ℕ × Bool). TellsPut g.L.Listener.hears limit stays (record (its_entry g c (its_hash g c)) { deadline = d.0; outlasts = d.1 })
+    (entries_of c.clean_up.new.store) new.contents.entries c.clean_up.new.listener after)
+    (λ i. (c.deadline-deadline.ensures i, c.is_beyond-outlasts.ensures i))
     (subst (λ h. TellsPut g.L.Listener.hears limit stays (its_entry g c h) (entries_of c.clean_up.new.store) new.contents.entries c.clean_up.new.listener after)
-    (its_own g c) put)
+    (its_own g c) put))
 
 -- the limit of main, where there is no window
 its_main : (g : Over) (c : After-weigh g) (max : Option ℕ) (new : Option PartLimits) → c.self.inside.windowed ≡ None → max ≡ c.self.inside.bounds.max_capacity
