@@ -64,6 +64,7 @@ enum mini_moka_status {
                                        duration use MINI_MOKA_UNLIMITED, which MINI_MOKA_SETTINGS_INIT has */
     MINI_MOKA_REJECTED = 9,         /* the call was made, and the full cache did not admit the new entry */
     MINI_MOKA_SHARE_TOO_LARGE = 10, /* a share is above 100 percent: nothing was opened */
+    MINI_MOKA_NO_TIME_TO_LIVE = 11, /* the cache has no time to live, so no entry can have its own: nothing was done */
 };
 
 /*
@@ -97,6 +98,7 @@ static inline const char *mini_moka_status_text(uint32_t status) {
         "a time to live or to idle is 0; MINI_MOKA_SETTINGS_INIT sets neither",
         "the new entry was not admitted",
         "a share is above 100 percent",
+        "the cache has no time to live",
     };
     return status < sizeof texts / sizeof *texts ? texts[status] : "an unknown status";
 }
@@ -154,6 +156,14 @@ uint32_t mini_moka_open(struct mini_moka *handle, const struct mini_moka_setting
  * of the key.
  */
 uint32_t mini_moka_insert(struct mini_moka *handle, const void *key, size_t key_length, const void *value, size_t value_length, uint64_t now);
+
+/*
+ * Inserts as mini_moka_insert does, with the entry's own time to live, in nanoseconds. The entry expires after that, or after the cache's time to live if that
+ * is shorter. A later mini_moka_insert gives the key the cache's again. In a cache without a time to live it returns MINI_MOKA_NO_TIME_TO_LIVE, and does
+ * nothing. No call finds the entry once it is expired. Its memory is freed in the order of writing, at the latest after the cache's time to live.
+ */
+uint32_t mini_moka_insert_for(struct mini_moka *handle, const void *key, size_t key_length, const void *value, size_t value_length, uint64_t time_to_live,
+                              uint64_t now);
 
 /*
  * Looks up the key, and makes its entry the most recently used one. Copies the value to the beginning of the buffer, and writes its length. If the buffer is
@@ -230,6 +240,7 @@ uint32_t mini_moka_u64_open(struct mini_moka *handle, const struct mini_moka_u64
 
 /* These calls work as those of bytes. */
 uint32_t mini_moka_u64_insert(struct mini_moka *handle, uint64_t key, uint64_t value, uint64_t now);
+uint32_t mini_moka_u64_insert_for(struct mini_moka *handle, uint64_t key, uint64_t value, uint64_t time_to_live, uint64_t now);
 uint32_t mini_moka_u64_get(struct mini_moka *handle, uint64_t key, uint64_t now, uint64_t *value);
 uint32_t mini_moka_u64_peek(struct mini_moka *handle, uint64_t key, uint64_t now, uint64_t *value);
 uint32_t mini_moka_u64_contains(struct mini_moka *handle, uint64_t key, uint64_t now);
@@ -270,6 +281,12 @@ uint32_t mini_moka_close(struct mini_moka *handle);
 
 /* Removes all entries, expired or not, as MINI_MOKA_CAUSE_EXPLICIT. */
 uint32_t mini_moka_invalidate_all(struct mini_moka *handle);
+
+/*
+ * Removes all expired entries, as MINI_MOKA_CAUSE_EXPIRED. Other calls remove a batch of them at most, in the orders of writing and of use, and stop at the
+ * first that isn't expired. This one visits each entry, unless the cache has no duration.
+ */
+uint32_t mini_moka_remove_expired(struct mini_moka *handle, uint64_t now);
 
 /* Writes the number of entries, including expired ones that no call has removed yet. */
 uint32_t mini_moka_count(struct mini_moka *handle, uint64_t *count);

@@ -182,6 +182,14 @@ static inline uint32_t mini_moka_segments_insert(struct mini_moka_segments *all,
     return mini_moka_segments_unlock(segment, mini_moka_insert(&segment->in.cache, key, key_length, value, value_length, now));
 }
 
+static inline uint32_t mini_moka_segments_insert_for(struct mini_moka_segments *all, const void *key, size_t key_length, const void *value,
+                                                     size_t value_length, uint64_t time_to_live, uint64_t now) {
+    if (all->segments == NULL)
+        return MINI_MOKA_CLOSED;
+    union mini_moka_segment *segment = mini_moka_segments_lock(all, key, key_length);
+    return mini_moka_segments_unlock(segment, mini_moka_insert_for(&segment->in.cache, key, key_length, value, value_length, time_to_live, now));
+}
+
 static inline uint32_t mini_moka_segments_get(struct mini_moka_segments *all, const void *key, size_t key_length, uint64_t now, void *buffer,
                                               size_t buffer_length, size_t *length) {
     if (all->segments == NULL)
@@ -324,6 +332,13 @@ static inline uint32_t mini_moka_segments_u64_insert(struct mini_moka_segments *
     return mini_moka_segments_unlock(segment, mini_moka_u64_insert(&segment->in.cache, key, value, now));
 }
 
+static inline uint32_t mini_moka_segments_u64_insert_for(struct mini_moka_segments *all, uint64_t key, uint64_t value, uint64_t time_to_live, uint64_t now) {
+    if (all->segments == NULL)
+        return MINI_MOKA_CLOSED;
+    union mini_moka_segment *segment = mini_moka_segments_lock(all, &key, sizeof key);
+    return mini_moka_segments_unlock(segment, mini_moka_u64_insert_for(&segment->in.cache, key, value, time_to_live, now));
+}
+
 static inline uint32_t mini_moka_segments_u64_get(struct mini_moka_segments *all, uint64_t key, uint64_t now, uint64_t *value) {
     if (all->segments == NULL)
         return MINI_MOKA_CLOSED;
@@ -404,6 +419,16 @@ static inline uint32_t mini_moka_segments_u64_visit(struct mini_moka_segments *a
 /* ---- either kind */
 
 /* The calls on all segments, one after another. Another thread may change a segment before the call reaches it or after. */
+static inline uint32_t mini_moka_segments_remove_expired(struct mini_moka_segments *all, uint64_t now) {
+    if (all->segments == NULL)
+        return MINI_MOKA_CLOSED;
+    for (size_t i = 0; i < all->count; i++) {
+        pthread_mutex_lock(&all->segments[i].in.lock);
+        mini_moka_segments_unlock(&all->segments[i], mini_moka_remove_expired(&all->segments[i].in.cache, now));
+    }
+    return MINI_MOKA_DONE;
+}
+
 static inline uint32_t mini_moka_segments_invalidate_all(struct mini_moka_segments *all) {
     if (all->segments == NULL)
         return MINI_MOKA_CLOSED;

@@ -421,6 +421,86 @@ static void numbers_expire(void) {
     CHECK(mini_moka_close(&cache) == MINI_MOKA_DONE);
 }
 
+/* A number lives until the end of its own time to live, or of the cache's if that is shorter. The next insert at its key has the cache's again. */
+static void numbers_have_their_own_time_to_live(void) {
+    struct mini_moka cache = {0};
+    struct mini_moka_u64_settings settings = NUMBERS;
+    CHECK(mini_moka_u64_insert_for(&cache, 7, 49, 5, 0) == MINI_MOKA_CLOSED);
+    CHECK(mini_moka_u64_open(&cache, &settings) == MINI_MOKA_DONE);
+    CHECK(mini_moka_u64_insert_for(&cache, 7, 49, 5, 0) == MINI_MOKA_NO_TIME_TO_LIVE && number_of(mini_moka_count, &cache) == 0);
+    CHECK(mini_moka_insert_for(&cache, "a", 1, "b", 1, 5, 0) == MINI_MOKA_OTHER_KIND);
+    CHECK(mini_moka_close(&cache) == MINI_MOKA_DONE);
+    settings.time_to_live = 20;
+    CHECK(mini_moka_u64_open(&cache, &settings) == MINI_MOKA_DONE);
+    CHECK(mini_moka_u64_insert_for(&cache, 7, 49, 5, 10) == MINI_MOKA_DONE && mini_moka_u64_insert_for(&cache, 8, 64, 99, 10) == MINI_MOKA_DONE);
+    CHECK(mini_moka_u64_contains(&cache, 7, 14) == MINI_MOKA_DONE && mini_moka_u64_contains(&cache, 7, 15) == MINI_MOKA_ABSENT);
+    CHECK(mini_moka_u64_contains(&cache, 8, 29) == MINI_MOKA_DONE && mini_moka_u64_contains(&cache, 8, 30) == MINI_MOKA_ABSENT);
+    CHECK(mini_moka_u64_insert_for(&cache, 7, 49, 5, 10) == MINI_MOKA_DONE && mini_moka_u64_insert(&cache, 7, 50, 10) == MINI_MOKA_DONE);
+    CHECK(mini_moka_u64_contains(&cache, 7, 29) == MINI_MOKA_DONE && mini_moka_u64_contains(&cache, 7, 30) == MINI_MOKA_ABSENT);
+    CHECK(mini_moka_u64_insert_for(&cache, 7, 49, 0, 30) == MINI_MOKA_DONE && mini_moka_u64_contains(&cache, 7, 30) == MINI_MOKA_ABSENT);
+    CHECK(mini_moka_u64_insert_for(&cache, 7, 49, UINT64_MAX, UINT64_MAX - 1) == MINI_MOKA_DONE);
+    CHECK(mini_moka_u64_contains(&cache, 7, UINT64_MAX) == MINI_MOKA_DONE && mini_moka_u64_insert_for(&cache, 7, 49, 1, UINT64_MAX - 1) == MINI_MOKA_DONE);
+    CHECK(mini_moka_u64_contains(&cache, 7, UINT64_MAX - 1) == MINI_MOKA_DONE && mini_moka_u64_contains(&cache, 7, UINT64_MAX) == MINI_MOKA_ABSENT);
+    CHECK(mini_moka_close(&cache) == MINI_MOKA_DONE);
+    settings.capacity = 0;
+    CHECK(mini_moka_u64_open(&cache, &settings) == MINI_MOKA_DONE && mini_moka_u64_insert_for(&cache, 7, 49, 5, 0) == MINI_MOKA_REJECTED);
+    CHECK(mini_moka_close(&cache) == MINI_MOKA_DONE);
+}
+
+/* So do bytes. */
+static void bytes_have_their_own_time_to_live(void) {
+    struct mini_moka cache = {0};
+    struct mini_moka_settings settings = BYTES;
+    CHECK(mini_moka_insert_for(&cache, "a", 1, "apple", 5, 5, 0) == MINI_MOKA_CLOSED);
+    CHECK(mini_moka_open(&cache, &settings) == MINI_MOKA_DONE);
+    CHECK(mini_moka_insert_for(&cache, "a", 1, "apple", 5, 5, 0) == MINI_MOKA_NO_TIME_TO_LIVE && number_of(mini_moka_count, &cache) == 0);
+    CHECK(mini_moka_u64_insert_for(&cache, 7, 49, 5, 0) == MINI_MOKA_OTHER_KIND);
+    CHECK(mini_moka_close(&cache) == MINI_MOKA_DONE);
+    settings.time_to_live = 20;
+    CHECK(mini_moka_open(&cache, &settings) == MINI_MOKA_DONE);
+    CHECK(mini_moka_insert_for(&cache, "a", 1, "apple", 5, 5, 10) == MINI_MOKA_DONE && mini_moka_insert_for(&cache, "b", 1, "bean", 4, 99, 10) == MINI_MOKA_DONE);
+    CHECK(finds(mini_moka_get, &cache, "a", 14, MINI_MOKA_DONE, "apple") && finds(mini_moka_peek, &cache, "a", 15, MINI_MOKA_ABSENT, NULL));
+    CHECK(finds(mini_moka_peek, &cache, "b", 29, MINI_MOKA_DONE, "bean") && finds(mini_moka_peek, &cache, "b", 30, MINI_MOKA_ABSENT, NULL));
+    CHECK(insert(&cache, "a", "almond", 14) == MINI_MOKA_DONE && finds(mini_moka_get, &cache, "a", 29, MINI_MOKA_DONE, "almond"));
+    CHECK(contains(&cache, "a", 34) == MINI_MOKA_ABSENT);
+    CHECK(mini_moka_close(&cache) == MINI_MOKA_DONE);
+}
+
+/* mini_moka_remove_expired removes what is expired behind an unexpired entry too. A call of a key stops there. */
+static void expired_entries_are_removed(void) {
+    struct mini_moka cache = {0};
+    struct mini_moka_u64_settings settings = NUMBERS;
+    struct mini_moka_statistics met;
+    uint64_t key = BEFORE, value = BEFORE;
+    uint32_t cause = BEFORE;
+    settings.removed_room = 4;
+    settings.time_to_live = 20;
+    CHECK(mini_moka_remove_expired(&cache, 0) == MINI_MOKA_CLOSED);
+    CHECK(mini_moka_u64_open(&cache, &settings) == MINI_MOKA_DONE);
+    CHECK(mini_moka_u64_insert(&cache, 7, 49, 0) == MINI_MOKA_DONE && mini_moka_u64_insert_for(&cache, 8, 64, 5, 0) == MINI_MOKA_DONE);
+    CHECK(mini_moka_walk(&cache) == MINI_MOKA_DONE);
+    CHECK(mini_moka_remove_expired(&cache, 4) == MINI_MOKA_DONE && number_of(mini_moka_count, &cache) == 2);
+    CHECK(mini_moka_u64_next(&cache, 4, &key, &value) == MINI_MOKA_CHANGED);
+    CHECK(mini_moka_u64_contains(&cache, 8, 5) == MINI_MOKA_ABSENT && number_of(mini_moka_count, &cache) == 2);
+    CHECK(mini_moka_remove_expired(&cache, 5) == MINI_MOKA_DONE && number_of(mini_moka_count, &cache) == 1);
+    CHECK(mini_moka_u64_removed(&cache, &key, &value, &cause) == MINI_MOKA_DONE && key == 8 && value == 64 && cause == MINI_MOKA_CAUSE_EXPIRED);
+    CHECK(mini_moka_u64_removed(&cache, &key, &value, &cause) == MINI_MOKA_ABSENT);
+    CHECK(mini_moka_statistics(&cache, &met) == MINI_MOKA_DONE && met.expirations == 1 && met.removals == 0);
+    CHECK(mini_moka_u64_contains(&cache, 7, 19) == MINI_MOKA_DONE && mini_moka_close(&cache) == MINI_MOKA_DONE);
+}
+
+/* The same of bytes. */
+static void expired_bytes_are_removed(void) {
+    struct mini_moka cache = {0};
+    struct mini_moka_settings settings = BYTES;
+    settings.time_to_live = 20;
+    CHECK(mini_moka_open(&cache, &settings) == MINI_MOKA_DONE && insert(&cache, "a", "apple", 0) == MINI_MOKA_DONE);
+    CHECK(mini_moka_insert_for(&cache, "b", 1, "bean", 4, 5, 0) == MINI_MOKA_DONE && number_of(mini_moka_count, &cache) == 2);
+    CHECK(mini_moka_remove_expired(&cache, 5) == MINI_MOKA_DONE && number_of(mini_moka_count, &cache) == 1);
+    CHECK(finds(mini_moka_peek, &cache, "a", 5, MINI_MOKA_DONE, "apple") && finds(mini_moka_peek, &cache, "b", 0, MINI_MOKA_ABSENT, NULL));
+    CHECK(mini_moka_close(&cache) == MINI_MOKA_DONE);
+}
+
 /* A cache stays within its capacity, and two handles have separate caches. mini_moka_u64_get_or_insert writes the value even if its entry is rejected. */
 static void caches_are_bounded(void) {
     struct mini_moka first = {0}, second = {0};
@@ -506,7 +586,7 @@ static void durations_of_zero_are_refused(void) {
 
 /* Each status has its own text, and three of them are no errors. */
 static void statuses_have_texts(void) {
-    for (uint32_t status = 0; status <= MINI_MOKA_SHARE_TOO_LARGE + 1; status++) {
+    for (uint32_t status = 0; status <= MINI_MOKA_NO_TIME_TO_LIVE + 1; status++) {
         CHECK(mini_moka_is_error(status) == (status != MINI_MOKA_DONE && status != MINI_MOKA_ABSENT && status != MINI_MOKA_REJECTED));
         for (uint32_t other = 0; other < status; other++)
             CHECK(strcmp(mini_moka_status_text(status), mini_moka_status_text(other)) != 0);
@@ -514,6 +594,7 @@ static void statuses_have_texts(void) {
     CHECK(strcmp(mini_moka_status_text(MINI_MOKA_ZERO_DURATION), "a time to live or to idle is 0; MINI_MOKA_SETTINGS_INIT sets neither") == 0);
     CHECK(strcmp(mini_moka_status_text(MINI_MOKA_REJECTED), "the new entry was not admitted") == 0);
     CHECK(strcmp(mini_moka_status_text(MINI_MOKA_SHARE_TOO_LARGE), "a share is above 100 percent") == 0);
+    CHECK(strcmp(mini_moka_status_text(MINI_MOKA_NO_TIME_TO_LIVE), "the cache has no time to live") == 0);
     CHECK(strcmp(mini_moka_status_text(UINT32_MAX), "an unknown status") == 0);
 }
 
@@ -647,6 +728,10 @@ int main(void) {
     long_values_are_got_or_inserted();
     numbers_come_and_go();
     numbers_expire();
+    numbers_have_their_own_time_to_live();
+    bytes_have_their_own_time_to_live();
+    expired_entries_are_removed();
+    expired_bytes_are_removed();
     walks_meet_each_number();
     calls_of_numbers_are_counted();
     caches_are_bounded();

@@ -20,14 +20,16 @@
 static uint64_t windows_moved;
 
 static void write_down(struct model *model, struct known *key, uint64_t version) {
-    *key = (struct known){true, version, model->now, model->now, false};
+    *key = (struct known){true, version, model->now, model->live, model->now, false};
 }
 
 static void play_insert(struct model *model, uint64_t key) {
     uint64_t version = ++model->versions;
     uint32_t status = insert(model, key, version);
-    if (is_refused(status))
+    if (is_refused(status) || status == MINI_MOKA_NO_TIME_TO_LIVE) {
+        require(is_refused(status) || model->time_to_live == MINI_MOKA_UNLIMITED, "a cache with a time to live denied it");
         return;
+    }
     require(status == MINI_MOKA_DONE || (status == MINI_MOKA_REJECTED && model->capacity != MINI_MOKA_UNLIMITED), "an insert failed");
     model->inserts++;
     model->rejections += status == MINI_MOKA_REJECTED;
@@ -37,10 +39,10 @@ static void play_insert(struct model *model, uint64_t key) {
     }
     note_put(model, key, version, status);
     write_down(model, &model->keys[key], version);
-    /* A peek removes nothing, so it finds the entry if the insert returned MINI_MOKA_DONE. */
+    /* A peek removes nothing, so it finds the entry if the insert returned MINI_MOKA_DONE, unless its own time to live is 0. */
     allocations_left = -1;
     uint32_t found = look_up(model, mini_moka_peek, mini_moka_u64_peek, key);
-    require(is_found(found) == (status == MINI_MOKA_DONE), "an insert returned a wrong status");
+    require(is_found(found) == (status == MINI_MOKA_DONE && is_alive(model, &model->keys[key])), "an insert returned a wrong status");
     model->keys[key].is_there = status == MINI_MOKA_DONE;
 }
 
@@ -81,6 +83,22 @@ static void play_invalidate(struct model *model, uint64_t key) {
     model->keys[key].is_there = false;
 }
 
+/* Removes all expired entries. No entry that is left is expired, and without a capacity each unexpired one is left. */
+static void play_remove_expired(struct model *model) {
+    uint64_t count = 0, alive = 0, surely_alive = 0;
+    require(mini_moka_remove_expired(&model->cache, model->now) == MINI_MOKA_DONE, "mini_moka_remove_expired failed");
+    require(mini_moka_count(&model->cache, &count) == MINI_MOKA_DONE, "a count failed");
+    for (uint64_t key = 0; key < KEYS; key++) {
+        alive += is_alive(model, &model->keys[key]);
+        surely_alive += is_surely_alive(model, &model->keys[key]);
+        if (is_alive(model, &model->keys[key]))
+            continue;
+        note_end(model, key, CAUSES, true);
+        model->keys[key].is_there = false;
+    }
+    require(count <= alive && (count >= surely_alive || model->capacity != MINI_MOKA_UNLIMITED), "a wrong number of entries is unexpired");
+}
+
 /* Removes all entries. The call has no moment, so none leaves as expired. */
 static void play_invalidate_all(struct model *model) {
     uint64_t count = 0;
@@ -114,6 +132,7 @@ static uint32_t get_or_insert(struct model *model, uint64_t key, uint64_t versio
 
 static void play_get_or_insert(struct model *model, uint64_t key) {
     uint64_t version = model->versions + 1;
+    model->live = model->time_to_live;
     struct known *known = &model->keys[key];
     struct mini_moka_statistics before = statistics_of(model);
     uint32_t status = get_or_insert(model, key, version);
@@ -273,9 +292,10 @@ static uint64_t some_key(const struct model *model) {
 static void play_call(struct model *model, unsigned dice) {
     uint64_t key = some_key(model);
     /* For each call, the upper bound of the dice, which are below 1000. */
-    static const unsigned below_it[] = {340, 680, 740, 800, 850, 880, 950, 951, 968, 970, 1000};
+    static const unsigned below_it[] = {340, 680, 740, 800, 850, 880, 950, 951, 968, 970, 998, 999, 1000};
     for (call = 0; dice >= below_it[call];)
         call++;
+    call = call == 11 ? 12 : call; /* 11 opens a cache */
     /* A peek, a drain, and counts remove nothing. */
     if (call != 2 && call != 7 && call != 8 && call != 10)
         sweep(model);
@@ -292,6 +312,7 @@ static void play_call(struct model *model, unsigned dice) {
     case 8: play_counts(model); break;
     case 9: model->is_bytes ? play_walk(model) : play_number_walk(model); break;
     case 10: drain(model); break;
+    default: play_remove_expired(model);
     }
     allocations_left = -1;
 }

@@ -55,13 +55,13 @@ static uint64_t below(uint64_t bound) {
 /* The model's knowledge of a key: its last write and last use, if no call has removed the entry. */
 struct known {
     bool is_there;
-    uint64_t version, written, used;
+    uint64_t version, written, live, used; /* live is its time to live */
     bool may_have_left; /* a call was made while the entry was expired, and may have removed it */
 };
 
 /* An entry that a call inserted: one version of a key's value. */
 struct put {
-    uint64_t version, written, used;
+    uint64_t version, written, live, used;
     uint32_t status; /* of the insert: MINI_MOKA_REJECTED also if a get-or-insert counted a rejection */
     bool has_left, was_expired; /* was_expired is set if a call that removes expired entries was made while the entry was expired */
     uint32_t ended; /* the cause for which a call of the key, or one that removes all, ended the entry if it was still there, or CAUSES */
@@ -72,6 +72,7 @@ struct model {
     struct mini_moka cache;
     bool is_bytes, is_weighed;
     uint64_t capacity, time_to_live, time_to_idle, now, versions;
+    uint64_t live; /* the time to live of the entry that a call inserts: its own, or the cache's if that is shorter */
     struct known keys[KEYS];
     bool goes_back, is_swept; /* is_swept is set if the model has noted what is expired now */
     uint64_t hits, misses, inserts, rejections;
@@ -86,7 +87,7 @@ struct model {
 };
 
 static const char *calls[] = {"insert",        "get",            "peek",   "contains", "remove", "invalidate",
-                              "get or insert", "invalidate all", "counts", "walk",     "drain",  "open"};
+                              "get or insert", "invalidate all", "counts", "walk",     "drain",  "open", "remove expired"};
 static unsigned call;
 static uint64_t calls_made, seed;
 
@@ -104,12 +105,12 @@ static bool is_over(uint64_t since, uint64_t duration, uint64_t now) {
     return duration != MINI_MOKA_UNLIMITED && since + duration <= now;
 }
 
-static bool is_expired(const struct model *model, uint64_t written, uint64_t used) {
-    return is_over(written, model->time_to_live, model->now) || is_over(used, model->time_to_idle, model->now);
+static bool is_expired(const struct model *model, uint64_t written, uint64_t live, uint64_t used) {
+    return is_over(written, live, model->now) || is_over(used, model->time_to_idle, model->now);
 }
 
 static bool is_alive(const struct model *model, const struct known *key) {
-    return key->is_there && !is_expired(model, key->written, key->used);
+    return key->is_there && !is_expired(model, key->written, key->live, key->used);
 }
 
 /* Returns true if a cache without a capacity must have the entry. */
@@ -153,15 +154,22 @@ static uint8_t *block_of(uint64_t key, size_t *key_length, size_t behind) {
     return block;
 }
 
-/* Inserts a version of the key's value. The value adjoins the key in memory. */
+/* Inserts a version of the key's value, at times with its own time to live. The value adjoins the key in memory. */
 static uint32_t insert(struct model *model, uint64_t key, uint64_t version) {
     static uint8_t value_at[LONGEST];
+    uint64_t own = below(4) > 0 ? MINI_MOKA_UNLIMITED : model->time_to_live == MINI_MOKA_UNLIMITED ? 7 : below(2 * model->time_to_live);
+    bool has_own = own != MINI_MOKA_UNLIMITED;
+    model->live = own < model->time_to_live ? own : model->time_to_live;
+    if (!model->is_bytes && has_own)
+        return mini_moka_u64_insert_for(&model->cache, key, value_number(key, version), own, model->now);
     if (!model->is_bytes)
         return mini_moka_u64_insert(&model->cache, key, value_number(key, version), model->now);
     size_t key_length, value_length = fill(value_at, value_number(key, version));
     uint8_t *pair = block_of(key, &key_length, value_length);
     memcpy(pair + key_length, value_at, value_length);
-    uint32_t status = mini_moka_insert(&model->cache, pair, key_length, pair + key_length, value_length, model->now);
+    const uint8_t *value = pair + key_length;
+    uint32_t status = has_own ? mini_moka_insert_for(&model->cache, pair, key_length, value, value_length, own, model->now)
+                              : mini_moka_insert(&model->cache, pair, key_length, value, value_length, model->now);
     free(pair);
     return status;
 }
@@ -244,7 +252,7 @@ static uint64_t weight_of(struct model *model) {
 
 static void note_put(struct model *model, uint64_t key, uint64_t version, uint32_t status) {
     int at = model->put_count++;
-    model->puts[at] = (struct put){version, model->now, model->now, status, false, false, CAUSES, NO_PUT};
+    model->puts[at] = (struct put){version, model->now, model->live, model->now, status, false, false, CAUSES, NO_PUT};
     if (model->first_put[key] == NO_PUT)
         model->first_put[key] = at;
     else
@@ -263,14 +271,14 @@ static void note_end(struct model *model, uint64_t key, uint32_t cause, bool has
         return;
     struct put *put = &model->puts[model->last_put[key]];
     if (put->ended == CAUSES)
-        put->ended = has_moment && is_expired(model, put->written, put->used) ? MINI_MOKA_CAUSE_EXPIRED : cause;
+        put->ended = has_moment && is_expired(model, put->written, put->live, put->used) ? MINI_MOKA_CAUSE_EXPIRED : cause;
 }
 
 /* Notes which entries are expired now, for a call that may remove them. */
 static void sweep(struct model *model) {
     for (size_t i = 0; i < KEYS && !model->is_swept; i++) {
         struct put *put = model->last_put[i] == NO_PUT ? NULL : &model->puts[model->last_put[i]];
-        if (put != NULL && put->ended == CAUSES && is_expired(model, put->written, put->used))
+        if (put != NULL && put->ended == CAUSES && is_expired(model, put->written, put->live, put->used))
             put->was_expired = model->keys[i].may_have_left = true;
     }
     model->is_swept = true;

@@ -61,6 +61,7 @@ static void calls_answer(void) {
     size_t length;
     uint32_t cause;
     CHECK(mini_moka_segments_insert(&cache, "a", 1, "apple", 5, 0) == MINI_MOKA_CLOSED);
+    CHECK(mini_moka_segments_insert_for(&cache, "a", 1, "apple", 5, 5, 0) == MINI_MOKA_CLOSED);
     CHECK(mini_moka_segments_removed(&cache, buffer, 8, buffer + 8, 8, &length, &(size_t){0}, &cause) == MINI_MOKA_CLOSED);
     CHECK(mini_moka_segments_get(&cache, "a", 1, 0, buffer, ROOM, &length) == MINI_MOKA_CLOSED);
     CHECK(mini_moka_segments_get_or_insert(&cache, "a", 1, "apple", 5, 0, buffer, ROOM, &length) == MINI_MOKA_CLOSED);
@@ -68,6 +69,7 @@ static void calls_answer(void) {
     CHECK(mini_moka_segments_remove(&cache, "a", 1, 0, buffer, ROOM, &length) == MINI_MOKA_CLOSED);
     CHECK(mini_moka_segments_contains(&cache, "a", 1, 0) == MINI_MOKA_CLOSED && mini_moka_segments_invalidate(&cache, "a", 1, 0) == MINI_MOKA_CLOSED);
     CHECK(mini_moka_segments_count(&cache, &number) == MINI_MOKA_CLOSED && mini_moka_segments_statistics(&cache, &met) == MINI_MOKA_CLOSED);
+    CHECK(mini_moka_segments_remove_expired(&cache, 0) == MINI_MOKA_CLOSED);
     CHECK(mini_moka_segments_invalidate_all(&cache) == MINI_MOKA_CLOSED && mini_moka_segments_close(&cache) == MINI_MOKA_CLOSED);
     CHECK(mini_moka_segments_open(&cache, &settings, 0) == MINI_MOKA_DONE && mini_moka_segments_open(&cache, &settings, 0) == MINI_MOKA_ALREADY_OPEN);
     CHECK(mini_moka_segments_insert(&cache, "a", 1, "apple", 5, 0) == MINI_MOKA_DONE && mini_moka_segments_insert(&cache, "", 0, "", 0, 0) == MINI_MOKA_DONE);
@@ -212,6 +214,12 @@ static void compare_a_call(struct mini_moka_segments *all, struct mini_moka *one
     case 6:
         status = mini_moka_segments_get_or_insert(all, &key, 1, "otherwise", size, now, a, room, &length);
         other_status = mini_moka_get_or_insert(one, &key, 1, "otherwise", size, now, b, room, &other);
+        break;
+    case 7:
+        memset(a, (int)(now & 127), ROOM);
+        status = mini_moka_segments_insert_for(all, &key, 1, a, size, now % 8, now);
+        other_status = mini_moka_insert_for(one, &key, 1, a, size, now % 8, now);
+        length = 0;
         break;
     default:
         memset(a, (int)(now & 127), ROOM);
@@ -399,7 +407,7 @@ static bool is_no_cache_of_numbers(struct mini_moka_segments *cache, uint32_t st
     CHECK(mini_moka_segments_u64_insert(cache, 1, 2, 0) == status && mini_moka_segments_u64_get(cache, 1, 0, &value) == status);
     CHECK(mini_moka_segments_u64_peek(cache, 1, 0, &value) == status && mini_moka_segments_u64_remove(cache, 1, 0, &value) == status);
     CHECK(mini_moka_segments_u64_contains(cache, 1, 0) == status && mini_moka_segments_u64_invalidate(cache, 1, 0) == status);
-    CHECK(mini_moka_segments_u64_get_or_insert(cache, 1, 2, 0, &value) == status);
+    CHECK(mini_moka_segments_u64_get_or_insert(cache, 1, 2, 0, &value) == status && mini_moka_segments_u64_insert_for(cache, 1, 2, 3, 0) == status);
     CHECK(mini_moka_segments_u64_removed(cache, &key, &value, &cause) == status);
     return key == 5 && value == 5 && cause == 5;
 }
@@ -485,6 +493,10 @@ static void compare_a_number_call(struct mini_moka_segments *all, struct mini_mo
     case 6:
         status = mini_moka_segments_u64_get_or_insert(all, key, value, now, &a);
         other_status = mini_moka_u64_get_or_insert(one, key, value, now, &b);
+        break;
+    case 7:
+        status = mini_moka_segments_u64_insert_for(all, key, value, now % 8, now);
+        other_status = mini_moka_u64_insert_for(one, key, value, now % 8, now);
         break;
     default:
         status = mini_moka_segments_u64_insert(all, key, value, now);
@@ -652,6 +664,16 @@ static void fill_bytes(struct mini_moka_segments *cache) {
     }
 }
 
+/* A removal of expired entries reaches each segment. */
+static void segments_remove_what_is_expired(void) {
+    struct mini_moka_segments cache = {0};
+    fill_bytes(&cache);
+    CHECK(mini_moka_segments_remove_expired(&cache, 19) == MINI_MOKA_DONE && number_of(&cache, mini_moka_segments_count) == VISITED);
+    CHECK(mini_moka_segments_remove_expired(&cache, 20) == MINI_MOKA_DONE && number_of(&cache, mini_moka_segments_count) == VISITED - 40);
+    is_locked(&cache, SIZE_MAX);
+    CHECK(mini_moka_segments_close(&cache) == MINI_MOKA_DONE);
+}
+
 /* A visit gets each unexpired entry once, in the order of a walk of each segment, and changes nothing. */
 static void visits_meet_each_entry(void) {
     struct mini_moka_segments cache = {0};
@@ -779,6 +801,7 @@ int main(void) {
     numbers_are_spread();
     one_segment_is_a_cache_of_numbers();
     shares_of_numbers_are_kept();
+    segments_remove_what_is_expired();
     visits_meet_each_entry();
     visits_meet_short_entries();
     visits_are_refused_memory();

@@ -2,7 +2,7 @@
 
 use crate::byte_builder::ByteBuilder;
 use crate::clock::{nanoseconds, Clock};
-use crate::error::OutOfMemory;
+use crate::error::{OutOfMemory, TimedInsertError};
 use crate::handle::{Bytes, Drained, Handle, Inserted, Look, Removed, Settings, Statistics, Step};
 use std::fmt;
 use std::iter::FusedIterator;
@@ -337,6 +337,54 @@ impl ByteCache {
             .insert(key.as_ref(), value.as_ref(), nanoseconds(now))
     }
 
+    /// Inserts copies of the key and the value as [`insert`](Self::insert) does, with a time to live of its own. The
+    /// entry expires after that, or after the cache's time to live if that is shorter. The next
+    /// insert at the key gives it a new one.
+    ///
+    /// ```
+    /// use mini_moka_proved::{ByteCache, ManualClock};
+    /// use std::time::Duration;
+    ///
+    /// let clock = ManualClock::new();
+    /// let hour = Duration::from_secs(3600);
+    /// let mut cache = ByteCache::builder().time_to_live(hour).manual_clock(&clock).build()?;
+    /// cache.insert_with_time_to_live("token", "alice", Duration::from_secs(60))?;
+    /// clock.advance(Duration::from_secs(60));
+    /// assert_eq!(cache.get("token"), None);
+    /// # Ok::<(), Box<dyn std::error::Error>>(())
+    /// ```
+    ///
+    /// # Errors
+    ///
+    /// [`TimedInsertError::NoTimeToLive`] if the cache has none, and
+    /// [`TimedInsertError::OutOfMemory`] if memory is refused. Then no entry is written.
+    pub fn insert_with_time_to_live(
+        &mut self,
+        key: impl AsRef<[u8]>,
+        value: impl AsRef<[u8]>,
+        time_to_live: Duration,
+    ) -> Result<Inserted, TimedInsertError> {
+        self.insert_with_time_to_live_at(key, value, time_to_live, self.now())
+    }
+
+    /// Inserts copies of the key and the value as [`insert_with_time_to_live`](Self::insert_with_time_to_live) does, at the
+    /// moment `now`.
+    ///
+    /// # Errors
+    ///
+    /// Those of [`insert_with_time_to_live`](Self::insert_with_time_to_live).
+    pub fn insert_with_time_to_live_at(
+        &mut self,
+        key: impl AsRef<[u8]>,
+        value: impl AsRef<[u8]>,
+        time_to_live: Duration,
+        now: Duration,
+    ) -> Result<Inserted, TimedInsertError> {
+        let own = nanoseconds(time_to_live);
+        self.handle
+            .insert_for(key.as_ref(), value.as_ref(), own, nanoseconds(now))
+    }
+
     /// Removes the entry of the key, and returns its value, unless it is expired. A value that
     /// isn't empty is looked up twice.
     ///
@@ -372,6 +420,17 @@ impl ByteCache {
     /// Removes the entry of the key as [`invalidate`](Self::invalidate) does, at the moment `now`.
     pub fn invalidate_at(&mut self, key: impl AsRef<[u8]>, now: Duration) {
         self.handle.invalidate(key.as_ref(), nanoseconds(now));
+    }
+
+    /// Removes all expired entries, in time linear in the number of entries. Other calls remove a
+    /// batch of them at most, and stop at the first that isn't expired.
+    pub fn remove_expired(&mut self) {
+        self.remove_expired_at(self.now());
+    }
+
+    /// Removes all entries that are expired at the moment `now`.
+    pub fn remove_expired_at(&mut self, now: Duration) {
+        self.handle.remove_expired(nanoseconds(now));
     }
 
     /// Removes all entries, in time linear in their number.

@@ -22,6 +22,33 @@ impl From<TryReserveError> for OutOfMemory {
     }
 }
 
+/// The error of an insert with a time to live of its own. No entry was written.
+#[derive(Clone, Copy, Debug, PartialEq, Eq)]
+#[non_exhaustive]
+pub enum TimedInsertError {
+    /// The cache was built without a time to live, so its entries can have none of their own.
+    NoTimeToLive,
+    /// Memory was refused.
+    OutOfMemory,
+}
+
+impl fmt::Display for TimedInsertError {
+    fn fmt(&self, f: &mut fmt::Formatter<'_>) -> fmt::Result {
+        match self {
+            TimedInsertError::NoTimeToLive => f.write_str("the cache has no time to live"),
+            TimedInsertError::OutOfMemory => OutOfMemory.fmt(f),
+        }
+    }
+}
+
+impl Error for TimedInsertError {}
+
+impl From<OutOfMemory> for TimedInsertError {
+    fn from(_: OutOfMemory) -> TimedInsertError {
+        TimedInsertError::OutOfMemory
+    }
+}
+
 /// The reason that a cache could not be built.
 #[derive(Clone, Copy, Debug, PartialEq, Eq)]
 #[non_exhaustive]

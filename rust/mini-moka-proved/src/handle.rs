@@ -7,7 +7,7 @@
 //! - *Handles.* A handle starts as all zeros. The program neither changes nor copies it, and makes
 //!   one call on it at a time.
 
-use crate::error::OutOfMemory;
+use crate::error::{OutOfMemory, TimedInsertError};
 use std::cell::UnsafeCell;
 use std::marker::PhantomData;
 use std::os::raw::c_void;
@@ -24,6 +24,7 @@ const ABSENT: u32 = 1;
 const OUT_OF_MEMORY: u32 = 4;
 const TOO_SHORT: u32 = 6;
 const REJECTED: u32 = 9;
+const NO_TIME_TO_LIVE: u32 = 11;
 
 /// The header's `struct mini_moka`.
 #[repr(C)]
@@ -210,6 +211,15 @@ extern "C" {
         value_length: usize,
         now: u64,
     ) -> u32;
+    fn mini_moka_insert_for(
+        handle: *mut RawHandle,
+        key: *const c_void,
+        key_length: usize,
+        value: *const c_void,
+        value_length: usize,
+        time_to_live: u64,
+        now: u64,
+    ) -> u32;
     fn mini_moka_get(
         handle: *mut RawHandle,
         key: *const c_void,
@@ -272,6 +282,13 @@ extern "C" {
 
     fn mini_moka_u64_open(handle: *mut RawHandle, settings: *const NumberSettings) -> u32;
     fn mini_moka_u64_insert(handle: *mut RawHandle, key: u64, value: u64, now: u64) -> u32;
+    fn mini_moka_u64_insert_for(
+        handle: *mut RawHandle,
+        key: u64,
+        value: u64,
+        time_to_live: u64,
+        now: u64,
+    ) -> u32;
     fn mini_moka_u64_get(handle: *mut RawHandle, key: u64, now: u64, value: *mut u64) -> u32;
     fn mini_moka_u64_peek(handle: *mut RawHandle, key: u64, now: u64, value: *mut u64) -> u32;
     fn mini_moka_u64_remove(handle: *mut RawHandle, key: u64, now: u64, value: *mut u64) -> u32;
@@ -294,6 +311,7 @@ extern "C" {
 
     fn mini_moka_close(handle: *mut RawHandle) -> u32;
     fn mini_moka_invalidate_all(handle: *mut RawHandle) -> u32;
+    fn mini_moka_remove_expired(handle: *mut RawHandle, now: u64) -> u32;
     fn mini_moka_count(handle: *mut RawHandle, count: *mut u64) -> u32;
     fn mini_moka_weight(handle: *mut RawHandle, weight: *mut u64) -> u32;
     fn mini_moka_window(handle: *mut RawHandle, weight: *mut u64) -> u32;
@@ -367,6 +385,13 @@ impl<Kind> Handle<Kind> {
     pub(crate) fn clear(&self) {
         // SAFETY: `at` points to a handle that keeps the rules, and there is no other pointer.
         let status = unsafe { mini_moka_invalidate_all(self.at()) };
+        expect_done(status);
+    }
+
+    /// Removes all expired entries.
+    pub(crate) fn remove_expired(&self, now: u64) {
+        // SAFETY: `at` points to a handle that keeps the rules, and there is no other pointer.
+        let status = unsafe { mini_moka_remove_expired(self.at(), now) };
         expect_done(status);
     }
 }
@@ -462,6 +487,29 @@ impl Handle<Bytes> {
             )
         };
         inserted(status)
+    }
+
+    /// Inserts a copy of the value under a copy of the key, with its own time to live.
+    pub(crate) fn insert_for(
+        &self,
+        key: &[u8],
+        value: &[u8],
+        time_to_live: u64,
+        now: u64,
+    ) -> Result<Inserted, TimedInsertError> {
+        // SAFETY: as of `insert`.
+        let status = unsafe {
+            mini_moka_insert_for(
+                self.at(),
+                key.as_ptr().cast(),
+                key.len(),
+                value.as_ptr().cast(),
+                value.len(),
+                time_to_live,
+                now,
+            )
+        };
+        inserted_for(status)
     }
 
     /// Looks up the key, which counts as an access.
@@ -625,6 +673,19 @@ impl Handle<Numbers> {
         inserted(status)
     }
 
+    /// Inserts the value under the key, with its own time to live.
+    pub(crate) fn insert_for(
+        &self,
+        key: u64,
+        value: u64,
+        time_to_live: u64,
+        now: u64,
+    ) -> Result<Inserted, TimedInsertError> {
+        // SAFETY: as of `insert`.
+        let status = unsafe { mini_moka_u64_insert_for(self.at(), key, value, time_to_live, now) };
+        inserted_for(status)
+    }
+
     /// Looks up the key, which counts as an access.
     pub(crate) fn get(&self, key: u64, now: u64) -> Option<u64> {
         self.look_up(mini_moka_u64_get, key, now)
@@ -714,6 +775,14 @@ fn inserted(status: u32) -> Result<Inserted, OutOfMemory> {
         return Ok(Inserted::Rejected);
     }
     written(status).map(|()| Inserted::Stored)
+}
+
+/// Converts the status of an insert with its own time to live.
+fn inserted_for(status: u32) -> Result<Inserted, TimedInsertError> {
+    if status == NO_TIME_TO_LIVE {
+        return Err(TimedInsertError::NoTimeToLive);
+    }
+    Ok(inserted(status)?)
 }
 
 /// Converts the status of a call that allocates nothing. Returns `true` if it found an entry.

@@ -49,7 +49,7 @@ pub mod unsync;
 pub use byte_builder::ByteBuilder;
 pub use bytes::{ByteCache, ByteIter, ByteRemovedIter};
 pub use clock::ManualClock;
-pub use error::{BuildError, OutOfMemory};
+pub use error::{BuildError, OutOfMemory, TimedInsertError};
 pub use handle::{Cause, Inserted, Removed, Statistics};
 pub use number_builder::NumberBuilder;
 pub use numbers::{NumberCache, NumberIter, NumberRemovedIter};

@@ -1,7 +1,7 @@
 //! The cache of numbers.
 
 use crate::clock::{nanoseconds, Clock};
-use crate::error::OutOfMemory;
+use crate::error::{OutOfMemory, TimedInsertError};
 use crate::handle::{Handle, Inserted, NumberSettings, Numbers, Removed, Statistics};
 use crate::number_builder::NumberBuilder;
 use std::fmt;
@@ -187,6 +187,40 @@ impl NumberCache {
         self.handle.insert(key, value, nanoseconds(now))
     }
 
+    /// Inserts the value under the key as [`insert`](Self::insert) does, with a time to live of its own. The
+    /// entry expires after that, or after the cache's time to live if that is shorter. The next
+    /// insert at the key gives it a new one.
+    ///
+    /// # Errors
+    ///
+    /// [`TimedInsertError::NoTimeToLive`] if the cache has none, and
+    /// [`TimedInsertError::OutOfMemory`] if memory is refused. Then no entry is written.
+    pub fn insert_with_time_to_live(
+        &mut self,
+        key: u64,
+        value: u64,
+        time_to_live: Duration,
+    ) -> Result<Inserted, TimedInsertError> {
+        self.insert_with_time_to_live_at(key, value, time_to_live, self.now())
+    }
+
+    /// Inserts the value under the key as [`insert_with_time_to_live`](Self::insert_with_time_to_live) does, at the
+    /// moment `now`.
+    ///
+    /// # Errors
+    ///
+    /// Those of [`insert_with_time_to_live`](Self::insert_with_time_to_live).
+    pub fn insert_with_time_to_live_at(
+        &mut self,
+        key: u64,
+        value: u64,
+        time_to_live: Duration,
+        now: Duration,
+    ) -> Result<Inserted, TimedInsertError> {
+        let own = nanoseconds(time_to_live);
+        self.handle.insert_for(key, value, own, nanoseconds(now))
+    }
+
     /// Removes the entry of the key, and returns its value, unless it is expired.
     ///
     /// # Errors
@@ -214,6 +248,17 @@ impl NumberCache {
     /// Removes the entry of the key as [`invalidate`](Self::invalidate) does, at the moment `now`.
     pub fn invalidate_at(&mut self, key: u64, now: Duration) {
         self.handle.invalidate(key, nanoseconds(now));
+    }
+
+    /// Removes all expired entries, in time linear in the number of entries. Other calls remove a
+    /// batch of them at most, and stop at the first that isn't expired.
+    pub fn remove_expired(&mut self) {
+        self.remove_expired_at(self.now());
+    }
+
+    /// Removes all entries that are expired at the moment `now`.
+    pub fn remove_expired_at(&mut self, now: Duration) {
+        self.handle.remove_expired(nanoseconds(now));
     }
 
     /// Removes all entries, in time linear in their number.

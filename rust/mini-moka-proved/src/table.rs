@@ -9,12 +9,14 @@
 //! anything. It drops no key and no value: what leaves is in `left`, or is returned. So its owner
 //! can release a lock first.
 
-use crate::error::{BuildError, OutOfMemory};
+use crate::clock::nanoseconds;
+use crate::error::{BuildError, OutOfMemory, TimedInsertError};
 use crate::handle::{Cause, Handle, Inserted, Numbers, Statistics};
 use crate::limits::Limits;
 use std::borrow::Borrow;
 use std::collections::{HashMap, VecDeque};
 use std::mem;
+use std::time::Duration;
 
 /// The largest queue of the library's removed entries. A call removes at most 100 entries by their
 /// time to live, 100 of each of three lists by their time to idle, 100 above the capacity, and a few
@@ -173,13 +175,28 @@ impl<K, V> Table<K, V> {
     where
         K: Eq,
     {
+        let done = self.insert_for(entry, hash, None, now);
+        done.map_err(|_| OutOfMemory)
+    }
+
+    /// Inserts the entry as `insert` does, with its own time to live if it has one.
+    pub(crate) fn insert_for(
+        &mut self,
+        entry: &mut Option<(K, V)>,
+        hash: u64,
+        own: Option<Duration>,
+        now: u64,
+    ) -> Result<Done<K, V>, TimedInsertError>
+    where
+        K: Eq,
+    {
         let found = match &*entry {
             Some((key, _)) => self.find(key, hash, now),
             None => unreachable!("there is an entry to insert"),
         };
         match found {
-            Found::Here { number, slot } => self.update(entry, number, slot, now),
-            Found::Nowhere { number } => self.insert_new(entry, number, hash, now),
+            Found::Here { number, slot } => self.update(entry, number, slot, own, now),
+            Found::Nowhere { number } => self.insert_new(entry, number, hash, own, now),
         }
     }
 
@@ -188,9 +205,10 @@ impl<K, V> Table<K, V> {
         entry: &mut Option<(K, V)>,
         number: u64,
         slot: u32,
+        own: Option<Duration>,
         now: u64,
-    ) -> Result<Done<K, V>, OutOfMemory> {
-        self.numbers.insert(number, u64::from(slot), now)?;
+    ) -> Result<Done<K, V>, TimedInsertError> {
+        self.put(number, slot, own, now)?;
         let (key, value) = taken(entry);
         let old = mem::replace(&mut self.filled_mut(slot).value, value);
         self.drain();
@@ -202,10 +220,11 @@ impl<K, V> Table<K, V> {
         entry: &mut Option<(K, V)>,
         number: u64,
         hash: u64,
+        own: Option<Duration>,
         now: u64,
-    ) -> Result<Done<K, V>, OutOfMemory> {
+    ) -> Result<Done<K, V>, TimedInsertError> {
         let slot = self.place(entry, number, hash)?;
-        let inserted = self.numbers.insert(number, u64::from(slot), now);
+        let inserted = self.put(number, slot, own, now);
         let done = match inserted {
             Ok(Inserted::Stored) => Ok(Done::New(slot)),
             Ok(Inserted::Rejected) => {
@@ -220,6 +239,22 @@ impl<K, V> Table<K, V> {
         };
         self.drain();
         done
+    }
+
+    /// Inserts a slot under its number, with its own time to live if it has one.
+    fn put(
+        &self,
+        number: u64,
+        slot: u32,
+        own: Option<Duration>,
+        now: u64,
+    ) -> Result<Inserted, TimedInsertError> {
+        match own {
+            None => Ok(self.numbers.insert(number, slot.into(), now)?),
+            Some(own) => self
+                .numbers
+                .insert_for(number, slot.into(), nanoseconds(own), now),
+        }
     }
 
     /// Removes the entry of the key, and returns it unless it is expired.
@@ -462,7 +497,6 @@ pub(crate) fn taken<K, V>(entry: &mut Option<(K, V)>) -> (K, V) {
 mod tests {
     use super::*;
     use std::collections::HashSet;
-    use std::time::Duration;
 
     impl Table<u64, u64> {
         /// Checks that each entry has a slot and a number of its own, and each other slot is free.

@@ -4,7 +4,7 @@ use super::lock::Lock;
 use super::{segment_of, segments_of};
 use crate::byte_builder;
 use crate::clock::{Clock, ManualClock};
-use crate::error::{BuildError, OutOfMemory};
+use crate::error::{BuildError, OutOfMemory, TimedInsertError};
 use crate::handle::{Inserted, Removed, Statistics};
 use std::fmt;
 use std::iter::FusedIterator;
@@ -270,6 +270,41 @@ impl ByteCache {
         self.segment(key).insert_at(key, value, now)
     }
 
+    /// Inserts copies of the key and the value as [`insert`](Self::insert) does, with a time to
+    /// live of its own. The entry expires after that, or after the cache's time to live if that is
+    /// shorter.
+    ///
+    /// # Errors
+    ///
+    /// Those of [`crate::ByteCache::insert_with_time_to_live`].
+    pub fn insert_with_time_to_live(
+        &self,
+        key: impl AsRef<[u8]>,
+        value: impl AsRef<[u8]>,
+        time_to_live: Duration,
+    ) -> Result<Inserted, TimedInsertError> {
+        self.insert_with_time_to_live_at(key, value, time_to_live, self.now())
+    }
+
+    /// Inserts copies of the key and the value as
+    /// [`insert_with_time_to_live`](Self::insert_with_time_to_live) does, at the moment `now`.
+    ///
+    /// # Errors
+    ///
+    /// Those of [`crate::ByteCache::insert_with_time_to_live`].
+    pub fn insert_with_time_to_live_at(
+        &self,
+        key: impl AsRef<[u8]>,
+        value: impl AsRef<[u8]>,
+        time_to_live: Duration,
+        now: Duration,
+    ) -> Result<Inserted, TimedInsertError> {
+        // Both are called before the lock is taken: they may call the cache.
+        let (key, value) = (key.as_ref(), value.as_ref());
+        self.segment(key)
+            .insert_with_time_to_live_at(key, value, time_to_live, now)
+    }
+
     /// Removes the entry of the key, and returns its value, unless it is expired.
     ///
     /// # Errors
@@ -303,6 +338,19 @@ impl ByteCache {
     pub fn invalidate_at(&self, key: impl AsRef<[u8]>, now: Duration) {
         let key = key.as_ref();
         self.segment(key).invalidate_at(key, now);
+    }
+
+    /// Removes all expired entries, one segment after another, as
+    /// [`crate::ByteCache::remove_expired`] does.
+    pub fn remove_expired(&self) {
+        self.remove_expired_at(self.now());
+    }
+
+    /// Removes all entries that are expired at the moment `now`.
+    pub fn remove_expired_at(&self, now: Duration) {
+        for segment in &self.shared.segments {
+            segment.cache.lock().remove_expired_at(now);
+        }
     }
 
     /// Removes all entries, one segment after another.

@@ -6,7 +6,7 @@ use super::lock::Lock;
 use super::making::{AnyError, Making, Makings, Outcome};
 use super::segment_of;
 use crate::clock::{nanoseconds, Clock};
-use crate::error::{BuildError, OutOfMemory};
+use crate::error::{BuildError, OutOfMemory, TimedInsertError};
 use crate::handle::Statistics;
 use crate::limits::Limits;
 use crate::table::{Done, Left, Table};
@@ -185,12 +185,37 @@ impl<K: Hash + Eq, V, S: BuildHasher> Cache<K, V, S> {
     ///
     /// [`OutOfMemory`] if memory for the entry is refused. Then the key and the value are dropped.
     pub fn try_insert(&self, key: K, value: V) -> Result<Insertion<V>, OutOfMemory> {
+        let insertion = self.put(key, value, None);
+        insertion.map_err(|_| OutOfMemory)
+    }
+
+    /// Inserts the value under the key as [`insert`](Self::insert) does, with a time to live of its
+    /// own. The entry expires after that, or after the cache's time to live if that is shorter.
+    ///
+    /// # Errors
+    ///
+    /// Those of [`unsync::Cache`](crate::unsync::Cache::insert_with_time_to_live).
+    pub fn insert_with_time_to_live(
+        &self,
+        key: K,
+        value: V,
+        time_to_live: Duration,
+    ) -> Result<Insertion<V>, TimedInsertError> {
+        self.put(key, value, Some(time_to_live))
+    }
+
+    fn put(
+        &self,
+        key: K,
+        value: V,
+        own: Option<Duration>,
+    ) -> Result<Insertion<V>, TimedInsertError> {
         let hash = self.hash(&key);
         // What stays in it, and the key of an update, is dropped once the segment is unlocked.
         let mut entry = Some((key, value));
         let mut spare = None;
         self.visit(hash, |state, now| {
-            Ok(match state.table.insert(&mut entry, hash, now)? {
+            Ok(match state.table.insert_for(&mut entry, hash, own, now)? {
                 Done::New(_) => Insertion::New,
                 Done::Replaced(_, key, old) => {
                     spare = Some(key);

@@ -2,7 +2,7 @@
 
 use super::builder::CacheBuilder;
 use crate::clock::{nanoseconds, Clock};
-use crate::error::{BuildError, OutOfMemory};
+use crate::error::{BuildError, OutOfMemory, TimedInsertError};
 use crate::handle::Statistics;
 use crate::limits::Limits;
 use crate::table::{taken, Done, Left, Table};
@@ -159,9 +159,50 @@ impl<K: Hash + Eq, V, S: BuildHasher> Cache<K, V, S> {
     ///
     /// [`OutOfMemory`] if memory for the entry is refused. Then the key and the value are dropped.
     pub fn try_insert(&mut self, key: K, value: V) -> Result<Insertion<V>, OutOfMemory> {
+        let insertion = self.put(key, value, None);
+        insertion.map_err(|_| OutOfMemory)
+    }
+
+    /// Inserts the value under the key as [`insert`](Self::insert) does, with a time to live of its
+    /// own. The entry expires after that, or after the cache's time to live if that is shorter. The
+    /// next insert at the key gives it a new one.
+    ///
+    /// ```
+    /// use mini_moka_proved::{Cache, ManualClock};
+    /// use std::time::Duration;
+    ///
+    /// let clock = ManualClock::new();
+    /// let hour = Duration::from_secs(3600);
+    /// let mut cache = Cache::builder().time_to_live(hour).manual_clock(&clock).build();
+    /// cache.insert_with_time_to_live("token", 7, Duration::from_secs(60))?;
+    /// clock.advance(Duration::from_secs(60));
+    /// assert_eq!(cache.get("token"), None);
+    /// # Ok::<(), mini_moka_proved::TimedInsertError>(())
+    /// ```
+    ///
+    /// # Errors
+    ///
+    /// [`TimedInsertError::NoTimeToLive`] if the cache has none, and
+    /// [`TimedInsertError::OutOfMemory`] if memory is refused. Then the key and the value are
+    /// dropped.
+    pub fn insert_with_time_to_live(
+        &mut self,
+        key: K,
+        value: V,
+        time_to_live: Duration,
+    ) -> Result<Insertion<V>, TimedInsertError> {
+        self.put(key, value, Some(time_to_live))
+    }
+
+    fn put(
+        &mut self,
+        key: K,
+        value: V,
+        own: Option<Duration>,
+    ) -> Result<Insertion<V>, TimedInsertError> {
         let hash = self.hash(&key);
         let mut entry = Some((key, value));
-        let done = self.table.insert(&mut entry, hash, self.moment());
+        let done = self.table.insert_for(&mut entry, hash, own, self.moment());
         let insertion = done.map(|done| match done {
             Done::New(_) => Insertion::New,
             Done::Replaced(_, _, old) => Insertion::Replaced(old),
