@@ -31,7 +31,7 @@ pub struct FrequencySketch<A: Allocator + Clone + Drop = Global> {
     table: Vec<u16, A>,
     sample_size: u32,
     size: u32,
-    /// What `reserve` has allocated for the next table.
+    /// The memory for the next table, allocated by `reserve`.
     spare: Spare<A>,
 }
 

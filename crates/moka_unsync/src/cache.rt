@@ -87,8 +87,8 @@ use std::marker::Model;
 /// # Expiry
 ///
 /// With a time to live an entry expires that long after its last insert, with a time to idle that long after its last `get` or insert, from the very end of
-/// that time on. No call reads a clock: the moment is handed in, and it may go back. `contains_key`, `peek`, `next_after` and `iter` don't count as an
-/// access.
+/// that time on. `insert_with_time_to_live` gives an entry a shorter time than the cache's. No call reads a clock: the moment is handed in, and it may go
+/// back. `contains_key`, `peek`, `next_after` and `iter` don't count as an access.
 ///
 /// # Hashing
 ///
@@ -99,17 +99,16 @@ use std::marker::Model;
 ///
 /// A look-up takes constant time on average, by an index over the hashes of the keys, as long as these are spread; keys of one hash are compared
 /// one after another. All else in a call takes constant time for each entry that it adds, removes or asks about, which with weights may be all of the
-/// window. Only building and inserting allocate. An insert
-/// within the cache's capacity allocates at most the sketch's table, and can't be refused. Beyond it the cache doubles its capacity, without a weigher
-/// up to one above the limit, and rebuilds the index. So a cache without a weigher whose `initial_capacity` is at least its limit refuses no insert. A
-/// cache has at most 2,000,000,000 entries.
+/// window. Only building and inserting allocate. An insert within the cache's capacity allocates at most the sketch's table, and can't be refused. Beyond it
+/// the cache doubles its capacity, without a weigher up to one above the limit, and rebuilds the index. So a cache without a weigher whose `initial_capacity`
+/// is at least its limit refuses no insert. A cache has at most 2,000,000,000 entries.
 ///
 /// # What differs from mini-moka
 ///
 /// Moments are handed in. Building and inserting return a `Result`: refused memory, a duration of more than 1000 years and a share above 100 are named
-/// refusals in place of an abort or a panic. Counts and weights follow every removal. Keys are looked up by `&K`. `iter` and the predicate of
-/// `invalidate_entries_if` go in order of use, the window last, `iter` leaves expired entries out, and `Debug` shows every stored one. `remove` is added, and
-/// new entries enter a window, whose share and that of a protected segment can be set.
+/// refusals in place of an abort or a panic. Counts and weights follow every removal. Keys are looked up by `&K` or by a probe. `iter` and the predicate of
+/// `invalidate_entries_if` go in order of use, the window last, `iter` leaves expired entries out, and `Debug` shows every stored one. New entries enter a
+/// window, whose share and that of a protected segment can be set. Calls are added, such as `remove` and those with a time to live.
 pub struct Cache<
     K: Eq + Hash + Drop,
     V: Drop,

@@ -18,8 +18,8 @@ use moka_unsync_model::listener::{Cause, Listener};
 use std::alloc::Allocator;
 use std::hash::Hash;
 
-/// Removes the entry of the key that the probe stands for, if there is one, and gives it to the listener: as expired, if it is, or else as removed. The hash
-/// is the probe's.
+/// Removes the entry of the key that the probe stands for, if there is one, and gives it to the listener. Its cause is that it expired, if it did, or else
+/// that it was removed. The hash is the probe's.
 pub(crate) fn remove_notifying<
     K: Eq + Hash + Drop,
     V: Drop,

@@ -18,7 +18,7 @@ use Rattle.moka_unsync_model.specs.Lookup.{after_look}
 use Rattle.moka_unsync_model.specs.Memory.{Memory, after_coming, after_remembering, at_most, demand_after, extra_at, is_noted, most_extra, new_tags, shares_at}
 use Rattle.moka_unsync_model.specs.Memory.{slack_of}
 use Rattle.moka_unsync_model.specs.Shares.{hundredths, limits_of}
-use Rattle.moka_unsync_model.specs.Step.{Answer, IsStep, Request, Runs, Get, Peek, ContainsKey, Insert, Invalidate, Remove, InvalidateAll}
+use Rattle.moka_unsync_model.specs.Step.{Answer, IsStep, Request, Runs, Get, Peek, ContainsKey, Miss, Insert, Invalidate, Remove, InvalidateAll}
 use Rattle.moka_unsync_model.specs.Step.{InvalidateEntriesIf, Iterate, EntryCount, WeightedSize}
 use Rattle.moka_unsync_model.specs.Window.{candidates, given_up, victims_of}
 use Rattle.moka_unsync_model.specs.declared.entry.Part.TheVariants.{Window}
@@ -77,6 +77,7 @@ module _ {K V S W : Type 0} (keys : Keys K S) (weighs : W → K → V → ℕ �
   bound-step old new (Get key now) answer step bound = bound-same old new (ap given_of step.1) bound
   bound-step old new (Peek key now) answer step bound = bound-same old new (ap given_of step.1) bound
   bound-step old new (ContainsKey key now) answer step bound = bound-same old new (ap given_of step.1) bound
+  bound-step old new (Miss hash now) answer step bound = bound-same old new (ap given_of step.1) bound
   bound-step old new (Insert key value own now) answer (inl (done, inserted)) bound =
       let looked = after_look keys old now in
       let asked : CacheState K V S W = record looked { weigher = inserted.weigher; capacity = inserted.capacity } in
@@ -164,6 +165,7 @@ module _ {K V S W : Type 0} (keys : Keys K S) (weighs : W → K → V → ℕ �
   fixed-step shares old new (Get key now) answer step fixed = ap kept_of step.1 ∙ fixed
   fixed-step shares old new (Peek key now) answer step fixed = ap kept_of step.1 ∙ fixed
   fixed-step shares old new (ContainsKey key now) answer step fixed = ap kept_of step.1 ∙ fixed
+  fixed-step shares old new (Miss hash now) answer step fixed = ap kept_of step.1 ∙ fixed
   fixed-step shares old new (Insert key value own now) answer (inl (done, inserted)) fixed =
       let looked = after_look keys old now in
       let asked : CacheState K V S W = record looked { weigher = inserted.weigher; capacity = inserted.capacity } in
@@ -330,6 +332,7 @@ module _ {K V S W : Type 0} (keys : Keys K S) (weighs : W → K → V → ℕ �
   followed-step old new (Get key now) answer step followed = followed-same old new (ap all_of step.1) followed
   followed-step old new (Peek key now) answer step followed = followed-same old new (ap all_of step.1) followed
   followed-step old new (ContainsKey key now) answer step followed = followed-same old new (ap all_of step.1) followed
+  followed-step old new (Miss hash now) answer step followed = followed-same old new (ap all_of step.1) followed
   followed-step old new (Insert key value own now) answer (inl (done, inserted)) followed =
       let looked = after_look keys old now in
       let asked : CacheState K V S W = record looked { weigher = inserted.weigher; capacity = inserted.capacity } in
@@ -368,6 +371,7 @@ module _ {K V S W : Type 0} (keys : Keys K S) (weighs : W → K → V → ℕ �
   moved-step limit old new (Get key now) answer step has followed = inl (ap (λ c. c.shares) step.1)
   moved-step limit old new (Peek key now) answer step has followed = inl (ap (λ c. c.shares) step.1)
   moved-step limit old new (ContainsKey key now) answer step has followed = inl (ap (λ c. c.shares) step.1)
+  moved-step limit old new (Miss hash now) answer step has followed = inl (ap (λ c. c.shares) step.1)
   moved-step limit old new (Insert key value own now) answer (inl (done, inserted)) has followed =
       let looked = after_look keys old now in
       let asked : CacheState K V S W = record looked { weigher = inserted.weigher; capacity = inserted.capacity } in

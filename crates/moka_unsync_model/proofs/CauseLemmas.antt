@@ -27,7 +27,7 @@ use Rattle.moka_unsync_model.specs.Cleanup.{is_expired}
 use Rattle.moka_unsync_model.specs.Insert.{Refused, after_entering, after_entry, after_new, after_put, after_turn, after_verdict, new_entry}
 use Rattle.moka_unsync_model.specs.Window.{after_candidacy, after_candidates, candidates, excess, victims_of}
 use Rattle.moka_unsync_model.specs.Invalidate.{chosen}
-use Rattle.moka_unsync_model.specs.Step.{Answer, IsStep, Request, Get, Peek, ContainsKey, Insert, Invalidate, Remove}
+use Rattle.moka_unsync_model.specs.Step.{Answer, IsStep, Request, Get, Peek, ContainsKey, Miss, Insert, Invalidate, Remove}
 use Rattle.moka_unsync_model.specs.Step.{InvalidateAll, InvalidateEntriesIf, Iterate, EntryCount, WeightedSize}
 use Rattle.moka_unsync_model.specs.Removal.{RemovalCause, Invalidated, Expired, AboveLimit, Displaced, GivenUp, Rejected, entries_from, cleanup_moment}
 use Rattle.moka_unsync_model.proofs.HistoryLemmas.{IsSame, any-key, entry_at-leaving, found-entering, found-turned, one_of, same-both, same-moved, same-self}
@@ -891,6 +891,9 @@ module _ {K V S W : Type 0} (keys : Keys K S) (laws : IsEquivalence keys.eq) (ke
         something (sym (ap (λ c. entry_at keys.eq key c.contents.entries) step.1) ∙ none) found
     step-cause old new (ContainsKey other now) answer step tied once found none =
         cleaned old new (ContainsKey other now) now refl tied once found
+        (λ stands. something (sym (ap (λ c. entry_at keys.eq key c.contents.entries) step.1) ∙ none) stands)
+    step-cause old new (Miss hash now) answer step tied once found none =
+        cleaned old new (Miss hash now) now refl tied once found
         (λ stands. something (sym (ap (λ c. entry_at keys.eq key c.contents.entries) step.1) ∙ none) stands)
     step-cause old new (Insert other value own now) answer (inl (done, inserted)) tied once found none =
         let kept = (after_look keys old now).contents in

@@ -24,7 +24,7 @@ use Rattle.moka_unsync_model.specs.Insert.{Refused, after_entering, after_entry,
 use Rattle.moka_unsync_model.specs.Window.{after_candidacy, after_candidates, after_sharing, candidates, given_up, victims_of}
 use Rattle.moka_unsync_model.specs.Invalidate.{chosen}
 use Rattle.moka_unsync_model.specs.Iterate.{unexpired_pairs}
-use Rattle.moka_unsync_model.specs.Step.{Answer, IsStep, Request, Get, Peek, ContainsKey, Insert, Invalidate, Remove, InvalidateAll}
+use Rattle.moka_unsync_model.specs.Step.{Answer, IsStep, Request, Get, Peek, ContainsKey, Miss, Insert, Invalidate, Remove, InvalidateAll}
 use Rattle.moka_unsync_model.specs.Step.{InvalidateEntriesIf, Iterate, EntryCount, WeightedSize, Done, Found, Pairs, Truth}
 use Rattle.moka_unsync_model.specs.History.{ContainsAsGet, Exchange, Transition, chosen_keys, exchanges, HitsAreCurrent, IsCurrent}
 use Rattle.moka_unsync_model.specs.History.{IsLastInsert, LastWrite, LastWritesAreInserts, Leads, PairsAreCurrent, PeekAsGet, PeeksAreCurrent, RemoveAsGet}
@@ -379,6 +379,8 @@ module _ {K V S W : Type 0} (keys : Keys K S) (laws : IsEquivalence keys.eq) whe
     told-step old new (Peek other now) answer known step once told key e h =
         told key e (sym (ap (λ c. entry_at keys.eq key c.contents.entries) step.1) ∙ h)
     told-step old new (ContainsKey other now) answer known step once told key e h =
+        told-cleanup known old now told key e (sym (ap (λ c. entry_at keys.eq key c.contents.entries) step.1) ∙ h)
+    told-step old new (Miss hash now) answer known step once told key e h =
         told-cleanup known old now told key e (sym (ap (λ c. entry_at keys.eq key c.contents.entries) step.1) ∙ h)
     told-step old new (Insert other value own now) answer known (inl (done, inserted)) once told key e h =
         let kept = (after_look keys old now).contents in

@@ -20,7 +20,7 @@ use Rattle.moka_unsync_model.specs.Window.{after_candidacy, after_candidates, af
 use Rattle.moka_unsync_model.specs.Laws.{KeysStandOnce, Remains}
 use Rattle.moka_unsync_model.specs.Lookup.{after_look, after_use, unexpired_at, after_using, used_part}
 use Rattle.moka_unsync_model.specs.Iterate.{pairs_of}
-use Rattle.moka_unsync_model.specs.Step.{Answer, IsStep, Request, Runs, Get, Peek, ContainsKey, Insert, Invalidate, Remove}
+use Rattle.moka_unsync_model.specs.Step.{Answer, IsStep, Request, Runs, Get, Peek, ContainsKey, Miss, Insert, Invalidate, Remove}
 use Rattle.moka_unsync_model.specs.Step.{InvalidateAll, InvalidateEntriesIf, Iterate, EntryCount, WeightedSize}
 use Rattle.moka_unsync_model.proofs.ContentsLemmas.{absent-leaving}
 use Rattle.moka_unsync_model.proofs.WindowLemmas.{goes_before}
@@ -271,6 +271,9 @@ module _ {K V S W : Type 0} (keys : Keys K S) (laws : IsEquivalence keys.eq) (we
   once-step old new (Peek key now) answer step once = subst (λ c. StandOnce keys.eq c.contents.entries) (sym step.1) once
   once-step old new (ContainsKey key now) answer step once =
       once-remains keys.eq old.contents new.contents (looks keys weighs old new (ContainsKey key now) answer tt step).1 once
+  once-step old new (Miss hash now) answer step once =
+      subst (λ c. StandOnce keys.eq c.contents.entries) (sym step.1)
+      (once-remains keys.eq old.contents (after_look keys old now).contents (remains-cleanup keys.eq old.settings.policy now old.contents) once)
   once-step old new (Insert key value own now) answer (inl (done, inserted)) once =
       let kept = (after_look keys old now).contents in
       let asked : CacheState K V S W = record old { weigher = inserted.weigher; capacity = inserted.capacity; contents = kept } in

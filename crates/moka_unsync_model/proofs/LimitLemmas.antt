@@ -27,7 +27,7 @@ use Rattle.moka_unsync_model.specs.Window.{after_candidacy, after_candidates, af
 use Rattle.moka_unsync_model.specs.Invalidate.{chosen}
 use Rattle.moka_unsync_model.specs.Laws.{IsUpdate, OnlyUpdatesOutgrowLimit, StaysWithinLimit}
 use Rattle.moka_unsync_model.specs.Lookup.{after_search, after_use, unexpired_at, after_using}
-use Rattle.moka_unsync_model.specs.Step.{Answer, IsStep, Request, Runs, Get, Peek, ContainsKey, Insert, Invalidate, Remove}
+use Rattle.moka_unsync_model.specs.Step.{Answer, IsStep, Request, Runs, Get, Peek, ContainsKey, Miss, Insert, Invalidate, Remove}
 use Rattle.moka_unsync_model.specs.Step.{InvalidateAll, InvalidateEntriesIf, Iterate, EntryCount, WeightedSize}
 use Rattle.moka_unsync_model.proofs.ContentsLemmas.{All-leaving, All-cleanup, idle_keys}
 use Rattle.moka_unsync_model.proofs.WindowLemmas.{total-latest, total-main_latest, total-split, window-latest}
@@ -489,6 +489,8 @@ module _ {K V S W : Type 0} (keys : Keys K S) (laws : IsEquivalence keys.eq) (we
   bounded_step old new limit (Peek key now) answer has step = less limit old new old (Peek key now) step.1 (grind (arith))
   bounded_step old new limit (ContainsKey key now) answer has step =
       less limit old new _ (ContainsKey key now) step.1 (total-cleanup keys.eq old.settings.policy now old.contents)
+  bounded_step old new limit (Miss hash now) answer has step =
+      less limit old new _ (Miss hash now) step.1 (total-cleanup keys.eq old.settings.policy now old.contents)
   bounded_step old new limit (Insert key value own now) answer has (inl done) = bounded_insert old new limit key value own now has done.1
   bounded_step old new limit (Insert key value own now) answer has (inr refused) =
       less limit old new (record old { capacity = new.capacity }) (Insert key value own now) refused.1.same (grind (arith))
@@ -606,6 +608,10 @@ module _ {K V S W : Type 0} (keys : Keys K S) (laws : IsEquivalence keys.eq) (we
       (grind (arith, total-search keys.eq laws (room_of old) policy now key kept, total-cleanup keys.eq policy now old.contents))
   within_step limit old new (Peek key now) answer within step = subst (IsWithin limit) (sym step.1) within
   within_step limit old new (ContainsKey key now) answer within step =
+      let policy = old.settings.policy in
+      within_less limit old new _ within step.1 refl (All-cleanup keys.eq (λ e. e.weight ≡ 1) policy now old.contents within.ones)
+      (total-cleanup keys.eq policy now old.contents)
+  within_step limit old new (Miss hash now) answer within step =
       let policy = old.settings.policy in
       within_less limit old new _ within step.1 refl (All-cleanup keys.eq (λ e. e.weight ≡ 1) policy now old.contents within.ones)
       (total-cleanup keys.eq policy now old.contents)

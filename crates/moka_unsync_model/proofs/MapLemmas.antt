@@ -28,7 +28,7 @@ use Rattle.moka_unsync_model.specs.Insert.{Refused, after_asking, after_entering
 use Rattle.moka_unsync_model.specs.Window.{victims_of}
 use Rattle.moka_unsync_model.specs.Invalidate.{chosen}
 use Rattle.moka_unsync_model.specs.Iterate.{unexpired_pairs, pairs_of}
-use Rattle.moka_unsync_model.specs.Step.{Answer, IsStep, Request, Get, Peek, ContainsKey, Insert, Invalidate, Remove, InvalidateAll}
+use Rattle.moka_unsync_model.specs.Step.{Answer, IsStep, Request, Get, Peek, ContainsKey, Miss, Insert, Invalidate, Remove, InvalidateAll}
 use Rattle.moka_unsync_model.specs.Step.{InvalidateEntriesIf, Iterate, EntryCount, WeightedSize, Found, Truth, OutOfMemory, Pairs, Number}
 use Rattle.moka_unsync_model.specs.PlainMap.{IsMapAnswer, IsUnbounded, RunsAsMap, StepsAsMap, value_after, value_at}
 use Rattle.moka_unsync_model.proofs.ContentsLemmas.{found_key}
@@ -410,6 +410,7 @@ module _ {K V S W : Type 0} (keys : Keys K S) (weighs : W → K → V → ℕ �
   terms-step old new (Get other now) answer step = ap terms_of step.1
   terms-step old new (Peek other now) answer step = ap terms_of step.1
   terms-step old new (ContainsKey other now) answer step = ap terms_of step.1
+  terms-step old new (Miss hash now) answer step = ap terms_of step.1
   terms-step old new (Insert other value own now) answer (inl (done, inserted)) =
       let kept = (after_look keys old now).contents in
       let entry = new_entry keys old.settings other value inserted.weight own now in
@@ -444,6 +445,7 @@ module _ {K V S W : Type 0} (keys : Keys K S) (weighs : W → K → V → ℕ �
         ∙ (ap is_some (unexpired-same old.settings.policy (unbounded.1, unbounded.2) now (entry_at keys.eq other old.contents.entries))
         ∙ (told_by_value (entry_at keys.eq other old.contents.entries)
         ∙ ap is_some (sym (value-pairs keys other old.contents.entries)))))
+    answers_as_map old new (Miss hash now) answer unbounded known step = step.0
     answers_as_map old new (Insert other value own now) answer unbounded known (inl (done, inserted)) = done
     answers_as_map old new (Insert other value own now) answer unbounded known (inr (refused, same)) = absurd (known refused)
     answers_as_map old new (Invalidate other now) answer unbounded known step = step.0
@@ -487,6 +489,8 @@ module _ {K V S W : Type 0} (keys : Keys K S) (weighs : W → K → V → ℕ �
         (value-used laws key (room_of old) now other (entry_at keys.eq other old.contents.entries) old.contents refl)))
     values_as_map old new (Peek other now) answer unbounded known step key = ap (cached_value key) step.1
     values_as_map old new (ContainsKey other now) answer unbounded known step key =
+        ap (cached_value key) step.1 ∙ ap (λ c. value_at keys key (pairs_of c.entries)) (look-same keys old unbounded now)
+    values_as_map old new (Miss hash now) answer unbounded known step key =
         ap (cached_value key) step.1 ∙ ap (λ c. value_at keys key (pairs_of c.entries)) (look-same keys old unbounded now)
     values_as_map old new (Insert other value own now) answer unbounded known (inl (done, inserted)) key =
         let entry = new_entry keys old.settings other value inserted.weight own now in

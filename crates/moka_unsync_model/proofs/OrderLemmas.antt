@@ -10,11 +10,11 @@ use Rattle.moka_unsync_model.specs.declared.entry.Entry.{Entry}
 use Rattle.moka_unsync_model.specs.Contents.{Contents, after_leaving, entry_at, entries_without, entry_keys, main_of, window_of, with_latest, without}
 use Rattle.moka_unsync_model.specs.Contents.{is_before, is_window, probation_of, protected_of}
 use Rattle.moka_unsync_model.specs.CacheState.{CacheState, new_cache, room_of, windowed}
-use Rattle.moka_unsync_model.specs.Lookup.{after_look, after_use, unexpired_at, after_using, used_part}
+use Rattle.moka_unsync_model.specs.Lookup.{after_look, after_miss, after_use, unexpired_at, after_using, used_part}
 use Rattle.moka_unsync_model.specs.Insert.{Refused, after_entering, after_entry, after_new, after_put, after_turn, after_verdict, new_entry}
 use Rattle.moka_unsync_model.specs.Window.{after_candidacy, after_candidates, after_sharing, candidates, victims_of}
 use Rattle.moka_unsync_model.specs.Invalidate.{chosen}
-use Rattle.moka_unsync_model.specs.Step.{Answer, IsStep, Request, Runs, Get, Peek, ContainsKey, Insert, Invalidate, Remove, InvalidateAll}
+use Rattle.moka_unsync_model.specs.Step.{Answer, IsStep, Request, Runs, Get, Peek, ContainsKey, Miss, Insert, Invalidate, Remove, InvalidateAll}
 use Rattle.moka_unsync_model.specs.Step.{InvalidateEntriesIf, Iterate, EntryCount, WeightedSize}
 use Rattle.moka_unsync_model.proofs.ContentsLemmas.{All-leaving}
 use Rattle.moka_unsync_model.proofs.WindowLemmas.{All-latest, latest-last, window-last}
@@ -216,6 +216,9 @@ module _ {K V S W : Type 0} (keys : Keys K S) (weighs : W → K → V → ℕ �
       (ap (λ c. c.contents) step.1) (ordered-look old now ordered)
   ordered-step old new (Peek key now) answer step ordered = subst IsOrdered (sym step.1) ordered
   ordered-step old new (ContainsKey key now) answer step ordered = subst IsOrdered (sym step.1) (ordered-look old now ordered)
+  ordered-step old new (Miss hash now) answer step ordered =
+      subst IsOrdered (sym step.1)
+      (ordered-remains old (after_miss keys old hash now) refl (remains-cleanup keys.eq old.settings.policy now old.contents) ordered)
   ordered-step old new (Insert key value own now) answer (inl (done, inserted)) ordered =
       let looked = after_look keys old now in
       let asked : CacheState K V S W = record looked { weigher = inserted.weigher; capacity = inserted.capacity } in

@@ -12,7 +12,7 @@ use Rattle.moka_unsync_model.specs.Cleanup.{is_expired, unexpired}
 use Rattle.moka_unsync_model.specs.Lookup.{after_look, after_use, unexpired_at}
 use Rattle.moka_unsync_model.specs.Insert.{Refused, after_put, new_entry}
 use Rattle.moka_unsync_model.specs.Invalidate.{chosen}
-use Rattle.moka_unsync_model.specs.Step.{Answer, IsStep, Request, Runs, Get, Peek, ContainsKey, Insert, Invalidate, Remove, InvalidateAll}
+use Rattle.moka_unsync_model.specs.Step.{Answer, IsStep, Request, Runs, Get, Peek, ContainsKey, Miss, Insert, Invalidate, Remove, InvalidateAll}
 use Rattle.moka_unsync_model.specs.Step.{InvalidateEntriesIf, Iterate, EntryCount, WeightedSize}
 use Rattle.moka_unsync_model.proofs.ContentsLemmas.{All-leaving, All-cleanup}
 use Rattle.moka_unsync_model.specs.Laws.{EntriesAreOwn}
@@ -83,6 +83,7 @@ module _ {K V S W : Type 0} (keys : Keys K S) (weighs : W → K → V → ℕ �
       (unexpired-found old.settings.policy now (entry_at keys.eq key kept.entries)) (own-look old now a))
   own-step old new (Peek key now) answer step a = subst AreOwn (sym step.1) a
   own-step old new (ContainsKey key now) answer step a = subst AreOwn (sym step.1) (own-look old now a)
+  own-step old new (Miss hash now) answer step a = subst AreOwn (sym step.1) (own-look old now a)
   own-step old new (Insert key value own now) answer (inl (done, inserted)) a =
       let kept = (after_look keys old now).contents in
       let asked : CacheState K V S W = record old { weigher = inserted.weigher; capacity = inserted.capacity; contents = kept } in

@@ -14,7 +14,7 @@ use Rattle.moka_unsync_model.specs.Cleanup.{after_expiry, after_idle, after_live
 use Rattle.moka_unsync_model.specs.Invalidate.{chosen}
 use Rattle.moka_unsync_model.proofs.ContentsLemmas.{fail_then, idle_keys}
 use Rattle.moka_unsync_model.specs.Laws.{InvalidationsKeepCounts, LooksChangeNothing, Remains, RemovalsOfExpiredAreInvalidations}
-use Rattle.moka_unsync_model.specs.Step.{Get, Peek, ContainsKey, Insert, Invalidate, Remove, InvalidateAll}
+use Rattle.moka_unsync_model.specs.Step.{Get, Peek, ContainsKey, Miss, Insert, Invalidate, Remove, InvalidateAll}
 use Rattle.moka_unsync_model.specs.Step.{InvalidateEntriesIf, Iterate, EntryCount, WeightedSize}
 
 module _ {X : Type 0} where
@@ -96,6 +96,7 @@ module _ {K V S W : Type 0} (keys : Keys K S) (weighs : W → K → V → ℕ �
   looks old new (Peek key now) answer call step = kept old new old step.1 refl (remains-all old.contents)
   looks old new (ContainsKey key now) answer call step =
       kept old new _ step.1 refl (remains-cleanup keys.eq old.settings.policy now old.contents)
+  looks old new (Miss hash now) answer call step = absurd call
   looks old new (Insert key value own now) answer call step = absurd call
   looks old new (Invalidate key now) answer call step = absurd call
   looks old new (Remove key now) answer call step = absurd call
@@ -109,6 +110,7 @@ module _ {K V S W : Type 0} (keys : Keys K S) (weighs : W → K → V → ℕ �
   invalidations old new (Get key now) answer call step = absurd call
   invalidations old new (Peek key now) answer call step = absurd call
   invalidations old new (ContainsKey key now) answer call step = absurd call
+  invalidations old new (Miss hash now) answer call step = absurd call
   invalidations old new (Insert key value own now) answer call step = absurd call
   invalidations old new (Invalidate key now) answer call step =
       let cleaned = after_cleanup keys.eq old.settings.policy now old.contents in

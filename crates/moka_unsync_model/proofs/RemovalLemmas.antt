@@ -9,17 +9,17 @@ use Rattle.moka_unsync_model.specs.declared.entry.Entry.{Entry}
 use Rattle.moka_unsync_model.specs.Contents.{Contents, after_leaving, entry_at, entry_keys, total_weight}
 use Rattle.moka_unsync_model.specs.CacheState.{CacheState, new_cache, room_of, windowed}
 use Rattle.moka_common.specs.Settings.{Settings, keeps_writes, live_nanos}
-use Rattle.moka_unsync_model.specs.Lookup.{after_use, after_look, unexpired_at, after_using}
+use Rattle.moka_unsync_model.specs.Lookup.{after_use, after_look, found_by_get, unexpired_at, after_using}
 use Rattle.moka_unsync_model.specs.Cleanup.{is_expired, unexpired}
 use Rattle.moka_unsync_model.specs.Insert.{Refused, after_entering, after_new, after_put, after_turn, after_verdict, new_entry}
 use Rattle.moka_unsync_model.specs.Window.{victims_of}
 use Rattle.moka_unsync_model.specs.Invalidate.{chosen}
-use Rattle.moka_unsync_model.specs.Step.{Answer, IsStep, Request, Get, Peek, ContainsKey, Insert, Invalidate, Remove, InvalidateAll}
+use Rattle.moka_unsync_model.specs.Step.{Answer, IsStep, Request, Get, Peek, ContainsKey, Miss, Insert, Invalidate, Remove, InvalidateAll}
 use Rattle.moka_unsync_model.specs.Step.{InvalidateEntriesIf, Iterate, EntryCount, WeightedSize, Found}
 use Rattle.moka_unsync_model.specs.History.{LastWrite, Leads, Transition, chosen_keys, exchanges, inserted_deadline, is_over, is_written, known_after}
 use Rattle.moka_unsync_model.specs.History.{last_write}
 use Rattle.moka_unsync_model.specs.Removal.{EntriesLeaveForACause, InsertsEnterOrAreRejected, IsMissing}
-use Rattle.moka_unsync_model.specs.Removal.{IsRejected, Leaves, MissesHaveAReason, RemovalCause, last_write_of}
+use Rattle.moka_unsync_model.specs.Removal.{IsRejected, Leaves, MissesHaveAReason, ProbesMissForAReason, RemovalCause, last_write_of}
 use Rattle.moka_unsync_model.proofs.ContentsLemmas.{absent-leaving}
 use Rattle.moka_unsync_model.proofs.HistoryLemmas.{found-turned, found-entering, found-cleanup, found_fresh, once-run, one_of, same_found, settings-run}
 use Rattle.moka_unsync_model.proofs.HistoryLemmas.{something}
@@ -92,6 +92,7 @@ module _ {K V S W : Type 0} (keys : Keys K S) (laws : IsEquivalence keys.eq) (we
   rejected key old new (Get other now) answer step once written none = absurd (false≢true written)
   rejected key old new (Peek other now) answer step once written none = absurd (false≢true written)
   rejected key old new (ContainsKey other now) answer step once written none = absurd (false≢true written)
+  rejected key old new (Miss hash now) answer step once written none = absurd (false≢true written)
   rejected key old new (Insert other value own now) answer (inl (done, inserted)) once written none =
       let kept = (after_look keys old now).contents in
       let equal : keys.eq other key ≡ true = sym (ap (λ a. is_written keys (Insert other value own now) a key) done) ∙ written in
@@ -300,6 +301,8 @@ module _ {K V S W : Type 0} (keys : Keys K S) (laws : IsEquivalence keys.eq) (we
       ap (λ c. entry_at keys.eq key c.contents.entries) step.1 ∙ none
   absent-step key old new (ContainsKey other now) answer step once written none =
       ap (λ c. entry_at keys.eq key c.contents.entries) step.1 ∙ absent-cleanup old now key none
+  absent-step key old new (Miss hash now) answer step once written none =
+      ap (λ c. entry_at keys.eq key c.contents.entries) step.1 ∙ absent-cleanup old now key none
   absent-step key old new (Insert other value own now) answer (inl (done, inserted)) once written none =
       let kept = (after_look keys old now).contents in
       ap (λ c. entry_at keys.eq key c.contents.entries) inserted.step
@@ -387,6 +390,35 @@ module _ {K V S W : Type 0} (keys : Keys K S) (laws : IsEquivalence keys.eq) (we
     missed settings shares weigher capacity past call cache key now leads asked,
     nothing_found settings shares weigher capacity past call cache key now leads asked,
   )
+
+  -- a look-up by a probe that finds nothing of a key
+  pub probe_misses : ProbesMissForAReason keys weighs
+  probe_misses settings shares weigher capacity past call cache key hash now (is, step, leads) asked empty =
+      by (subst (λ r. IsStep keys weighs call.before r call.answer call.after) asked step)
+      (entry_at keys.eq key (after_look keys call.before now).contents.entries) refl
+    where
+      by : IsStep keys weighs call.before (Miss hash now) call.answer call.after → (o : Option (Entry K V))
+          → entry_at keys.eq key (after_look keys call.before now).contents.entries ≡ o
+          → IsMissing keys weighs (call ∷ past) key
+          ⊎ ((write : LastWrite V) × (last_write keys key (exchanges past) ≡ Some write) × (is_over settings.policy now write ≡ true))
+      by missed None at =
+          inl (missing-run settings shares weigher capacity (call ∷ past) cache key (is, step, leads)
+          (sym (ap (λ c. entry_at keys.eq key c.contents.entries) is) ∙ (ap (λ c. entry_at keys.eq key c.contents.entries) missed.1 ∙ at)))
+      by missed (Some e) at =
+          let policy = call.before.settings.policy in
+          let none : option_map (λ e. e.value) (unexpired policy now (Some e)) ≡ None =
+          sym (ap (λ o. option_map (λ e. e.value) (unexpired policy now o)) at) ∙ empty in
+          elim (cases_Bool (is_expired policy now e)) [
+            | inl expired ↦
+                inr (
+                  last_write_of e,
+                  told-cleanup keys laws (λ key. last_write keys key (exchanges past)) call.before now
+                      (told-run keys laws weighs settings shares weigher capacity past call.before leads) key e at,
+                  subst (λ s. is_over s.policy now (last_write_of e) ≡ true)
+                      (settings-run keys laws weighs settings shares weigher capacity past call.before leads) expired,
+                )
+            | inr fresh ↦ something none (ap (option_map (λ e. e.value)) (cond-false (is_expired policy now e) None (Some e) fresh))
+          ]
 
   -- an accepted insert has its entry then, or was rejected
   pub inserts : InsertsEnterOrAreRejected keys weighs

@@ -14,7 +14,7 @@ use Rattle.moka_unsync_model.specs.Memory.{Memory}
 use Rattle.moka_unsync_model.specs.Insert.{Refused, after_asking, after_entering, after_new, after_put, after_turn, after_verdict, new_entry}
 use Rattle.moka_unsync_model.specs.Window.{victims_of}
 use Rattle.moka_unsync_model.specs.Lookup.{after_look}
-use Rattle.moka_unsync_model.specs.Step.{Answer, IsStep, Request, Runs, Get, Peek, ContainsKey, Insert, Invalidate, Remove, InvalidateAll}
+use Rattle.moka_unsync_model.specs.Step.{Answer, IsStep, Request, Runs, Get, Peek, ContainsKey, Miss, Insert, Invalidate, Remove, InvalidateAll}
 use Rattle.moka_unsync_model.specs.Step.{InvalidateEntriesIf, Iterate, EntryCount, WeightedSize, Done, OutOfMemory}
 use Rattle.moka_unsync_model.specs.Laws.{NeverRefuses}
 use Rattle.moka_unsync_model.proofs.LimitLemmas.{IsWithin, total-ones, within_step}
@@ -64,6 +64,7 @@ module _ {K V S W : Type 0} (keys : Keys K S) (weighs : W → K → V → ℕ �
   served_step old new (Get key now) answer room step = served old new _ answer _ (λ e. (cc)) step.0 step.1 refl
   served_step old new (Peek key now) answer room step = served old new old answer _ (λ e. (cc)) step.0 step.1 refl
   served_step old new (ContainsKey key now) answer room step = served old new _ answer _ (λ e. (cc)) step.0 step.1 refl
+  served_step old new (Miss hash now) answer room step = served old new _ answer _ (λ e. (cc)) step.0 step.1 refl
   served_step old new (Insert key value own now) answer room (inl step) =
       let done = step.1 in
       let kept = (after_look keys old now).contents in

@@ -18,10 +18,10 @@ use Rattle.moka_unsync_model.specs.Contents.{Contents, after_leaving, entries_wi
 use Rattle.moka_unsync_model.specs.Contents.{window_of, with_latest}
 use Rattle.moka_unsync_model.specs.Insert.{Refused, after_entering, after_entry, after_new, after_put, after_turn, gained_by, new_entry}
 use Rattle.moka_unsync_model.specs.Laws.{InsertsDoLittle, IsLittleWork, MovesBy, Remains}
-use Rattle.moka_unsync_model.specs.Lookup.{after_look, after_use, after_using, unexpired_at, used_part}
+use Rattle.moka_unsync_model.specs.Lookup.{after_look, after_miss, after_use, after_using, unexpired_at, used_part}
 use Rattle.moka_unsync_model.specs.Memory.{Memory, at_most, demand_after, shares_at}
 use Rattle.moka_unsync_model.specs.Shares.{hundredths, limits_of, main_limit, protected_room, windowed_limits}
-use Rattle.moka_unsync_model.specs.Step.{Answer, IsStep, Request, Runs, Get, Peek, ContainsKey, Insert, Invalidate, Remove, InvalidateAll}
+use Rattle.moka_unsync_model.specs.Step.{Answer, IsStep, Request, Runs, Get, Peek, ContainsKey, Miss, Insert, Invalidate, Remove, InvalidateAll}
 use Rattle.moka_unsync_model.specs.Step.{InvalidateEntriesIf, Iterate, EntryCount, WeightedSize}
 use Rattle.moka_unsync_model.specs.Invalidate.{chosen}
 use Rattle.moka_unsync_model.specs.Window.{after_candidacy, after_candidates, after_sharing, candidates, excess, given_up, victims_of}
@@ -264,6 +264,10 @@ module _ {K V S W : Type 0} (keys : Keys K S) (laws : IsEquivalence keys.eq) (we
       (held-look old now calm.held)
   held-step limit old new (Peek key now) answer calm step = subst IsHeld (sym step.1) calm.held
   held-step limit old new (ContainsKey key now) answer calm step = subst IsHeld (sym step.1) (held-look old now calm.held)
+  held-step limit old new (Miss hash now) answer calm step =
+      subst IsHeld (sym step.1)
+      (held-less old (after_miss keys old hash now) refl
+      (window-remains old.contents (after_look keys old now).contents (remains-cleanup keys.eq old.settings.policy now old.contents)) calm.held)
   held-step limit old new (Insert key value own now) answer calm (inl (done, inserted)) =
       let looked = after_look keys old now in
       let asked : CacheState K V S W = record looked { weigher = inserted.weigher; capacity = inserted.capacity } in

@@ -23,7 +23,7 @@ use Rattle.moka_unsync_model.specs.Insert.{new_entry}
 use Rattle.moka_unsync_model.specs.Insert.{after_arrival}
 use Rattle.moka_unsync_model.specs.Window.{after_candidacy, after_candidates, after_sharing, candidates, given_up, victims_of}
 use Rattle.moka_unsync_model.specs.Invalidate.{chosen}
-use Rattle.moka_unsync_model.specs.Step.{Answer, IsStep, Request, Runs, Get, Peek, ContainsKey, Insert, Invalidate, Remove, InvalidateAll}
+use Rattle.moka_unsync_model.specs.Step.{Answer, IsStep, Request, Runs, Get, Peek, ContainsKey, Miss, Insert, Invalidate, Remove, InvalidateAll}
 use Rattle.moka_unsync_model.specs.Step.{InvalidateEntriesIf, Iterate, EntryCount, WeightedSize}
 use Rattle.moka_unsync_model.proofs.ContentsLemmas.{absent-leaving, found_key, idle_keys}
 use Rattle.moka_unsync_model.specs.Laws.{AreWritesOf, WritesFollowEntries}
@@ -354,6 +354,7 @@ module _ {K V S W : Type 0} (keys : Keys K S) (laws : IsEquivalence keys.eq) (we
       (unexpired-found old.settings.policy now (entry_at keys.eq key kept.entries)) (follow-look old now f))
   follow-step old new (Peek key now) answer step once f = subst Follows (sym step.1) f
   follow-step old new (ContainsKey key now) answer step once f = subst Follows (sym step.1) (follow-look old now f)
+  follow-step old new (Miss hash now) answer step once f = subst Follows (sym step.1) (follow-look old now f)
   follow-step old new (Insert key value own now) answer (inl (done, inserted)) once f =
       let kept = (after_look keys old now).contents in
       let asked : CacheState K V S W = record old { weigher = inserted.weigher; capacity = inserted.capacity; contents = kept } in

@@ -17,7 +17,7 @@ use Rattle.moka_unsync_model.specs.Invalidate.{after_invalidate, after_invalidat
 use Rattle.moka_unsync_model.specs.Lookup.{after_get, after_get_where, after_look, found_by_get, found_by_peek, found_where, is_contained}
 use Rattle.moka_unsync_model.specs.Lookup.{is_contained_where, peeked_where, unexpired_at}
 use Rattle.moka_unsync_model.specs.GetOrInsert.{IsGot, IsPutBehind, IsRefusedBehind}
-use Rattle.moka_unsync_model.specs.Step.{Answer, IsStep, Done, Found, OutOfMemory, Request, Runs, Get, Peek, ContainsKey, Insert, Invalidate, Remove}
+use Rattle.moka_unsync_model.specs.Step.{Answer, IsStep, Done, Found, OutOfMemory, Request, Runs, Get, Peek, ContainsKey, Miss, Insert, Invalidate, Remove}
 use Rattle.moka_unsync_model.specs.Step.{InvalidateAll, InvalidateEntriesIf, Iterate, EntryCount, WeightedSize}
 use Rattle.moka_unsync_model.specs.declared.shares.Shares.{Shares}
 use Rattle.moka_unsync_model.specs.declared.shares.PartLimits.{PartLimits}
@@ -220,6 +220,7 @@ module _ {K V : Type 0} where
   IsLook (Get key now) = ⊥
   IsLook (Peek key now) = Unit {0}
   IsLook (ContainsKey key now) = Unit {0}
+  IsLook (Miss hash now) = ⊥
   IsLook (Insert key value own now) = ⊥
   IsLook (Invalidate key now) = ⊥
   IsLook (Remove key now) = ⊥
@@ -234,6 +235,7 @@ module _ {K V : Type 0} where
   IsInvalidation (Get key now) = ⊥
   IsInvalidation (Peek key now) = ⊥
   IsInvalidation (ContainsKey key now) = ⊥
+  IsInvalidation (Miss hash now) = ⊥
   IsInvalidation (Insert key value own now) = ⊥
   IsInvalidation (Invalidate key now) = Unit {0}
   IsInvalidation (Remove key now) = Unit {0}

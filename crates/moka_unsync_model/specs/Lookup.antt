@@ -2,7 +2,7 @@
 use Rattle.std.specs.Prelude.{ℕ, Bool, ◌&&◌, nat_le, nat_lt, is_some, Option, Some, None, option_map, if◌then◌else◌}
 use Rattle.moka_common.specs.Keys.{Keys}
 use Rattle.moka_common.specs.Policy.{Policy}
-use Rattle.moka_common.specs.Sketch.{after_increment}
+use Rattle.moka_common.specs.Sketch.{Table, after_increment}
 use Rattle.moka_unsync_model.specs.declared.entry.Entry.{Entry}
 use Rattle.moka_unsync_model.specs.declared.entry.Part.{Part}
 use Rattle.moka_unsync_model.specs.declared.entry.Part.TheVariants.{Probation, Protected, Window}
@@ -51,10 +51,19 @@ module _ {K V : Type 0} (eq : K → K → Bool) where
 abbrev pub peeked_where : {K V S W : Type 0} → CacheState K V S W → (K → Bool) → ℕ → Option V
 peeked_where cache test now = option_map (λ e. e.value) (unexpired_where cache.settings.policy now test cache.contents)
 
+-- the sketch once a hash was counted, if there is one
+abbrev pub counted : Option ℕ → Option Table → Option Table
+counted None sketch = sketch
+counted (Some hash) sketch = after_increment sketch hash
+
 module _ {K V S W : Type 0} (keys : Keys K S) where
   -- the cache after a call that only looks: cleanup
   abbrev pub after_look : CacheState K V S W → ℕ → CacheState K V S W
   after_look cache now = record cache { contents = after_cleanup keys.eq cache.settings.policy now cache.contents }
+
+  -- the cache after a look-up by a probe that finds nothing: cleanup, and the hash is counted, if there is one
+  abbrev pub after_miss : CacheState K V S W → Option ℕ → ℕ → CacheState K V S W
+  after_miss cache hash now = record (after_look cache now) { sketch = counted hash cache.sketch }
 
   -- the cache after a get of a key that passes a test: cleanup, then the hash is counted, and the unexpired entry is used
   abbrev pub after_get_where : CacheState K V S W → (K → Bool) → ℕ → ℕ → CacheState K V S W

@@ -7,7 +7,7 @@ use Rattle.moka_common.specs.Policy.{Policy}
 use Rattle.moka_unsync_model.specs.CacheState.{CacheState}
 use Rattle.moka_unsync_model.specs.Invalidate.{chosen}
 use Rattle.moka_unsync_model.specs.Iterate.{pairs_of}
-use Rattle.moka_unsync_model.specs.Step.{Answer, IsStep, Request, Runs, Get, Peek, ContainsKey, Insert, Invalidate, Remove, InvalidateAll}
+use Rattle.moka_unsync_model.specs.Step.{Answer, IsStep, Request, Runs, Get, Peek, ContainsKey, Miss, Insert, Invalidate, Remove, InvalidateAll}
 use Rattle.moka_unsync_model.specs.Step.{InvalidateEntriesIf, Iterate, EntryCount, WeightedSize, Found, Truth, Done, OutOfMemory, Pairs, Number}
 
 -- there is no limit and no duration
@@ -24,6 +24,7 @@ module _ {K V S : Type 0} (keys : Keys K S) where
   IsMapAnswer pairs (Get key now) answer = answer ≡ Found (value_at key pairs)
   IsMapAnswer pairs (Peek key now) answer = answer ≡ Found (value_at key pairs)
   IsMapAnswer pairs (ContainsKey key now) answer = answer ≡ Truth (is_some (value_at key pairs))
+  IsMapAnswer pairs (Miss hash now) answer = answer ≡ Found None
   IsMapAnswer pairs (Insert key value own now) answer = answer ≡ Done
   IsMapAnswer pairs (Invalidate key now) answer = answer ≡ Done
   IsMapAnswer pairs (Remove key now) answer = answer ≡ Found (value_at key pairs)
@@ -38,6 +39,7 @@ module _ {K V S : Type 0} (keys : Keys K S) where
   value_after pairs (Get other now) key = value_at key pairs
   value_after pairs (Peek other now) key = value_at key pairs
   value_after pairs (ContainsKey other now) key = value_at key pairs
+  value_after pairs (Miss hash now) key = value_at key pairs
   value_after pairs (Insert other value own now) key = if keys.eq other key then Some value else value_at key pairs
   value_after pairs (Invalidate other now) key = if keys.eq other key then None else value_at key pairs
   value_after pairs (Remove other now) key = if keys.eq other key then None else value_at key pairs

@@ -8,7 +8,8 @@ use Rattle.moka_unsync_model.specs.Contents.{entry_at, total_weight, is_window}
 use Rattle.moka_unsync_model.specs.CacheState.{CacheState, new_cache}
 use Rattle.moka_unsync_model.specs.Cleanup.{is_expired}
 use Rattle.moka_unsync_model.specs.Deadline.{end_of, expiry_of}
-use Rattle.moka_unsync_model.specs.Step.{Request, Get, ContainsKey, Insert, Invalidate, Remove, Done, Found}
+use Rattle.moka_unsync_model.specs.Lookup.{found_by_get}
+use Rattle.moka_unsync_model.specs.Step.{Request, Get, ContainsKey, Miss, Insert, Invalidate, Remove, Done, Found}
 use Rattle.moka_unsync_model.specs.History.{LastWrite, Leads, Transition, chosen_keys, exchanges}
 use Rattle.moka_unsync_model.specs.History.{is_invalidated, is_over, is_written, last_write}
 use Rattle.moka_unsync_model.specs.declared.shares.Shares.{Shares}
@@ -18,6 +19,7 @@ use Rattle.moka_unsync_model.specs.Shares.{limits_of, main_limit}
 abbrev pub cleanup_moment : {K V : Type 0} → Request K V → Option ℕ
 cleanup_moment (Get key now) = Some now
 cleanup_moment (ContainsKey key now) = Some now
+cleanup_moment (Miss hash now) = Some now
 cleanup_moment (Insert key value own now) = Some now
 cleanup_moment (Invalidate key now) = Some now
 cleanup_moment (Remove key now) = Some now
@@ -123,3 +125,14 @@ module _ {K V S W : Type 0} (keys : Keys K S) (weighs : W → K → V → ℕ �
       (call.answer ≡ Found None)
       ↔ (IsMissing (call ∷ past) key
       ⊎ ((write : LastWrite V) × (last_write keys key (exchanges past) ≡ Some write) × (is_over settings.policy now write ≡ true)))
+
+  -- and so does a look-up by a probe that finds nothing, of each key that it stands for
+  abbrev pub ProbesMissForAReason : Type 0
+  ProbesMissForAReason =
+      (settings : Settings S) (shares : Shares) (weigher : W) (capacity : ℕ) (past : List (Transition K V S W)) (call : Transition K V S W)
+      (cache : CacheState K V S W)
+      (key : K) (hash : Option ℕ) (now : ℕ) →
+      Leads keys weighs (new_cache settings shares weigher capacity) (call ∷ past) cache → call.request ≡ Miss hash now →
+      found_by_get keys call.before key now ≡ None →
+      IsMissing (call ∷ past) key
+      ⊎ ((write : LastWrite V) × (last_write keys key (exchanges past) ≡ Some write) × (is_over settings.policy now write ≡ true))

@@ -1,19 +1,20 @@
 -- The cache as a machine: what each call replies and leaves, and what a list of calls does.
-use Rattle.std.specs.Prelude.{◌≡◌, ◌⊎◌, ℕ, Bool, List, [], ◌∷◌, length, Option}
+use Rattle.std.specs.Prelude.{◌≡◌, ◌⊎◌, ℕ, Bool, List, [], ◌∷◌, length, Option, None}
 use Rattle.moka_common.specs.Keys.{Keys}
 use Rattle.moka_unsync_model.specs.Contents.{weighted_size}
 use Rattle.moka_unsync_model.specs.CacheState.{CacheState}
-use Rattle.moka_unsync_model.specs.Lookup.{after_get, after_look, found_by_get, found_by_peek, is_contained}
+use Rattle.moka_unsync_model.specs.Lookup.{after_get, after_look, after_miss, found_by_get, found_by_peek, is_contained}
 use Rattle.moka_unsync_model.specs.Insert.{IsInserted, IsRefused}
 use Rattle.moka_unsync_model.specs.Invalidate.{after_invalidate, after_invalidate_all, after_invalidate_if}
 use Rattle.moka_unsync_model.specs.Iterate.{pairs_at}
 
--- a call, with its moment where it needs one; an insert with its own time to live before that, if it has one; a conditional invalidation with the answers
--- of its predicate
+-- a call, with its moment where it needs one; a look-up by a probe that finds nothing, with its hash where that is counted;
+-- an insert with its own time to live before that, if it has one; a conditional invalidation with the answers of its predicate
 pub data Request (K V : Type 0) : Type 0 where
   Get : K → ℕ → Request K V
   Peek : K → ℕ → Request K V
   ContainsKey : K → ℕ → Request K V
+  Miss : Option ℕ → ℕ → Request K V
   Insert : K → V → Option ℕ → ℕ → Request K V
   Invalidate : K → ℕ → Request K V
   Remove : K → ℕ → Request K V
@@ -38,6 +39,7 @@ module _ {K V S W : Type 0} (keys : Keys K S) (weighs : W → K → V → ℕ �
   IsStep old (Get key now) answer new = (answer ≡ Found (found_by_get keys old key now)) × (new ≡ after_get keys old key now)
   IsStep old (Peek key now) answer new = (answer ≡ Found (found_by_peek keys old key now)) × (new ≡ old)
   IsStep old (ContainsKey key now) answer new = (answer ≡ Truth (is_contained keys old key now)) × (new ≡ after_look keys old now)
+  IsStep old (Miss hash now) answer new = (answer ≡ Found None) × (new ≡ after_miss keys old hash now)
   IsStep old (Insert key value own now) answer new =
       ((answer ≡ Done) × IsInserted keys weighs old key value own now new) ⊎ ((answer ≡ OutOfMemory) × IsRefused old new)
   IsStep old (Invalidate key now) answer new = (answer ≡ Done) × (new ≡ after_invalidate keys old key now)

@@ -4,7 +4,7 @@ ghost use Rattle.moka_unsync_model.specs.Excluded.{EntriesWithoutCauseStay, Expi
 ghost use Rattle.moka_unsync_model.specs.History.{ContainsAsGet, HitsAreCurrent, LastWritesAreInserts, PairsAreCurrent, PeekAsGet, PeeksAreCurrent};
 ghost use Rattle.moka_unsync_model.specs.History.{RemoveAsGet};
 ghost use Rattle.moka_unsync_model.specs.History.{RunsHaveAHistory};
-ghost use Rattle.moka_unsync_model.specs.Removal.{EntriesLeaveForACause, InsertsEnterOrAreRejected, MissesHaveAReason};
+ghost use Rattle.moka_unsync_model.specs.Removal.{EntriesLeaveForACause, InsertsEnterOrAreRejected, MissesHaveAReason, ProbesMissForAReason};
 
 use moka_common::weigh::Weigh;
 use std::hash::{BuildHasher, Hash};
@@ -29,6 +29,11 @@ pub fn pairs_are_current<K: Eq + Hash, V, S: BuildHasher, W: Weigh<K, V>>()
 /// `remove_as_get`.
 pub fn misses_have_a_reason<K: Eq + Hash, V, S: BuildHasher, W: Weigh<K, V>>()
     ensures { MissesHaveAReason (keys_by K.Hash S.BuildHasher S.Hasher.Hasher) W.weighs }
+{}
+
+/// The same for look-ups by probes: each key that the probe stands for is missing for such a reason, or its last write is over.
+pub fn probes_miss_for_a_reason<K: Eq + Hash, V, S: BuildHasher, W: Weigh<K, V>>()
+    ensures { ProbesMissForAReason (keys_by K.Hash S.BuildHasher S.Hasher.Hasher) W.weighs }
 {}
 
 /// The calls of a run, the last one first, are a history: so all lists of calls have these laws, and those of `unsync::run` too.
@@ -71,7 +76,7 @@ pub fn replaced_values_are_not_current<K: Eq + Hash, V, S: BuildHasher>()
     ensures { ReplacedValuesAreNotCurrent (keys_by K.Hash S.BuildHasher S.Hasher.Hasher) V }
 {}
 
-/// That an expired entry is answered: a value is not current from the end of its time to live on, of its own one or the cache's, whichever is shorter.
+/// That an expired entry is answered. A value is not current from the end of its time to live on, of its own one or the cache's, whichever is shorter.
 pub fn expired_values_are_not_current<K: Eq + Hash, V, S: BuildHasher>()
     ensures { ExpiredValuesAreNotCurrent (keys_by K.Hash S.BuildHasher S.Hasher.Hasher) V }
 {}

@@ -112,8 +112,8 @@ impl<
         }
     }
 
-    /// Puts the value at the key, as `insert` does, by the key's hash, with its own time to live if one is given and the cache has one. If it replaces a value,
-    /// the listener gets the old value with the new key, as replaced or, if the value was past a duration, as expired.
+    /// Puts the value at the key, as `insert` does, by the key's hash. It has its own time to live if one is given and the cache has one. If it replaces a
+    /// value, the listener gets the old value with the new key, as replaced or, if the value was past a duration, as expired.
     pub fn insert_notifying<L: Listener<K, V>>(
         &mut self,
         key: K,
