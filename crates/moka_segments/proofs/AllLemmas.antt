@@ -14,7 +14,7 @@ use Rattle.moka_segments.specs.History.{IsLedBy, Knows, Log, Visit, joined}
 use Rattle.std.specs.Borrow.{Bor}
 use Rattle.std.specs.Prelude.{Bool}
 use Rattle.moka_segments.specs.Calls.{Copies, Makes, MakesAll, MakesIn, SameIn, Sums, VisitsIn}
-use Rattle.moka_segments.specs.TellsAll.{InvalidatesAllIf, InvalidatesIf}
+use Rattle.moka_segments.specs.TellsAll.{InvalidatesAllIf, InvalidatesIf, Sweeps, SweepsAll}
 
 fold_more : (so_far : ℕ) (xs : List ℕ) (n : ℕ) → fold (λ a x. a + x) so_far (xs ++ n ∷ []) ≡ fold (λ a x. a + x) so_far xs + n
 fold_more so_far [] n = refl
@@ -137,6 +137,41 @@ module _ {K V S W : Type 0} (keys : Keys K S) (weighs : W → K → V → ℕ �
             m refl (ap Pairs here);
         told = ap (λ l. l ++ part) s.told ∙ joined_more s.parts part;
       }
+
+  pub none_yet_swept : (now : ℕ) (v : Knows K V S W) → SweepsAll keys weighs rules plan now v 0 v
+  none_yet_swept now v = record { made = λ i lt. absurd (omega arith); later = λ i le. (refl, refl); same = refl }
+
+  -- what was expired left one segment more
+  pub one_more_swept_in : (now : ℕ) (v u w : Knows K V S W) (count : ℕ) → SweepsAll keys weighs rules plan now v count u
+      → Sweeps keys weighs rules plan now u count w → ((j : ℕ) → j ≢ count → SameIn u j w) → SweepsAll keys weighs rules plan now v (count + 1) w
+  one_more_swept_in now v u w count all m others = record {
+    made = λ i lt. same_or i count
+        (λ here. subst (λ k. Sweeps keys weighs rules plan now v k w) (sym here) (record {
+          answers = m.answers;
+          made = record {
+            call = m.made.call;
+            asked = m.made.asked;
+            answered = m.made.answered;
+            visit = from_before v u w count (m.made.call ∷ []) (all.later count (omega arith)) all.same m.made.visit;
+          };
+          left = m.left;
+        }))
+        (λ apart. let was = all.made i (omega arith) in record {
+          answers = was.answers;
+          made = record {
+            call = was.made.call;
+            asked = was.made.asked;
+            answered = was.made.answered;
+            visit = later_too v u w i (was.made.call ∷ []) was.made.visit (others i apart) m.made.visit.same;
+          };
+          left = was.left;
+        });
+    later = λ i le.
+        let before = all.later i (omega arith) in
+        let now = others i (λ e. omega arith) in
+        (now.0 ∙ before.0, now.1 ∙ before.1);
+    same = m.made.visit.same ∙ all.same;
+  }
 
   module _ {F : Type 0} (asks : F → Bor K → Bor V → Bool → F → Type 0) (predicate : F) where
     pub none_yet_if : (v : Knows K V S W) → InvalidatesAllIf keys weighs rules plan asks predicate v 0 v

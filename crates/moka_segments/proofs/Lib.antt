@@ -10,3 +10,4 @@ mod PairLemmas
 mod ToldLemmas
 mod NoteLemmas
 mod NotifyLemmas
+mod ProbeLemmas

@@ -8,3 +8,4 @@ pub mod TellsAll
 pub mod Put
 pub mod Session
 pub mod Notifying
+pub mod Probes

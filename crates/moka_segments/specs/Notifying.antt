@@ -1,10 +1,11 @@
 -- What a session's listener is told: of each entry that leaves in a visit of the session, with its cause, and of nothing else.
-use Rattle.std.specs.Prelude.{◌≡◌, ℕ, zero, suc, ⊤, Bool, List, [], ◌∷◌, Option, Some, None}
+use Rattle.std.specs.Prelude.{◌≡◌, ℕ, zero, suc, ⊤, Bool, true, List, [], ◌∷◌, Option, Some, None}
 use Rattle.moka_common.specs.Keys.{Keys}
 use Rattle.moka_unsync_model.specs.declared.listener.Cause.{Cause}
-use Rattle.moka_unsync_model.specs.declared.listener.Cause.TheVariants.{Explicit}
+use Rattle.moka_unsync_model.specs.declared.listener.Cause.TheVariants.{Expired, Explicit}
 use Rattle.moka_unsync_model.specs.CacheState.{CacheState}
-use Rattle.moka_unsync_model.specs.Step.{Answer, Request, ContainsKey, Done, Get, Insert, Invalidate, InvalidateAll, InvalidateEntriesIf, Remove}
+use Rattle.moka_unsync_model.specs.Cleanup.{is_expired}
+use Rattle.moka_unsync_model.specs.Step.{Answer, Request, ContainsKey, Done, Get, Insert, Invalidate, InvalidateAll, InvalidateEntriesIf, Miss, Remove}
 use Rattle.moka_unsync_model.specs.Told.{TellsWhatLeft}
 use Rattle.moka_unsync_model.specs.ToldCalls.{TellsInsert, TellsInvalidate, TellsLook, TellsRemove}
 use Rattle.moka_row.specs.Visits.{Lists, at}
@@ -35,6 +36,7 @@ module _ {L K V S W : Type 0} (hears : L → K → V → Cause → L → Type 0)
   abbrev pub TellsCall : CacheState K V S W → Request K V → Answer K V → CacheState K V S W → L → L → Type 0
   TellsCall old (Get key now) answer new before after = TellsLook hears keys old now before after
   TellsCall old (ContainsKey key now) answer new before after = TellsLook hears keys old now before after
+  TellsCall old (Miss hash now) answer new before after = TellsLook hears keys old now before after
   TellsCall old (Insert key value own now) answer new before after = TellsInserted old key value now answer new before after
   TellsCall old (Invalidate key now) answer new before after = TellsInvalidate hears keys old now key before after
   TellsCall old (Remove key now) answer new before after = TellsRemove hears keys old now key before after
@@ -62,6 +64,24 @@ module _ {L K V S W : Type 0} (hears : L → K → V → Cause → L → Type 0)
   abbrev pub TellsEach : Lists (ℕ × Visit K V S W) → ℕ → L → L → Type 0
   TellsEach seen zero before after = after ≡ before
   TellsEach seen (suc count) before after = (between : L) × TellsEach seen count before between × TellsLast (at seen count) between after
+
+  -- a visit that removed what was expired then tells of that
+  abbrev pub TellsSwept : ℕ → Visit K V S W → L → L → Type 0
+  TellsSwept now [] before after = ⊥
+  TellsSwept now (call ∷ earlier) before after =
+      TellsWhatLeft hears Expired (λ e. is_expired call.before.settings.policy now e ≡ true) call.before.contents.entries call.after.contents.entries
+      before after
+
+  -- so does the one that stands last in a history
+  abbrev pub TellsSweptLast : ℕ → Log K V S W → L → L → Type 0
+  TellsSweptLast now [] before after = ⊥
+  TellsSweptLast now (visit ∷ earlier) before after = TellsSwept now visit.1 before after
+
+  -- and the ones in the histories of so many segments, one segment after another
+  abbrev pub TellsEachSwept : ℕ → Lists (ℕ × Visit K V S W) → ℕ → L → L → Type 0
+  TellsEachSwept now seen zero before after = after ≡ before
+  TellsEachSwept now seen (suc count) before after =
+      (between : L) × TellsEachSwept now seen count before between × TellsSweptLast now (at seen count) between after
 
   -- the insert of a value that was made tells, if there was one
   abbrev pub TellsIfPut : CacheState K V S W → K → ℕ → Option (V × Bool) → CacheState K V S W → L → L → Type 0

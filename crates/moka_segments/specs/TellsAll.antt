@@ -5,7 +5,7 @@ use Rattle.std.specs.List.{AllZip, IsDistinct}
 use Rattle.moka_common.specs.Keys.{Keys}
 use Rattle.moka_unsync_model.specs.declared.entry.Entry.{Entry}
 use Rattle.moka_unsync_model.specs.Contents.{entry_at}
-use Rattle.moka_unsync_model.specs.Invalidate.{AnswersInTurn, after_invalidate_if}
+use Rattle.moka_unsync_model.specs.Invalidate.{AnswersInTurn, after_invalidate_if, after_remove_expired}
 use Rattle.moka_unsync_model.specs.Step.{InvalidateEntriesIf, Done}
 use Rattle.moka_unsync_model.specs.History.{IsCurrent, exchanges}
 use Rattle.moka_row.specs.Visits.{at}
@@ -37,6 +37,18 @@ module _ {K V S W : Type 0} (keys : Keys K S) (weighs : W → K → V → ℕ �
   pub record InvalidatesAllIf {F : Type 0} (asks : F → Bor K → Bor V → Bool → F → Type 0)
       (predicate : F) (old : Knows K V S W) (count : ℕ) (new : Knows K V S W) : Type 0 where
     pub made : (i : ℕ) → i < count → InvalidatesIf asks predicate old i new
+    pub later : (i : ℕ) → count ≤ i → SameIn old i new
+    pub same : new.by ≡ old.by
+
+  -- what a removal of expired entries makes and tells in a segment: it is an invalidation, after which the entries that were expired have left
+  pub record Sweeps (now : ℕ) (old : Knows K V S W) (i : ℕ) (new : Knows K V S W) : Type 0 where
+    pub answers : List Bool
+    pub made : MakesIn keys weighs rules plan old i (InvalidateEntriesIf answers) Done new
+    pub left : made.call.after ≡ after_remove_expired keys made.call.before now
+
+  -- and in each segment, one after another
+  pub record SweepsAll (now : ℕ) (old : Knows K V S W) (count : ℕ) (new : Knows K V S W) : Type 0 where
+    pub made : (i : ℕ) → i < count → Sweeps now old i new
     pub later : (i : ℕ) → count ≤ i → SameIn old i new
     pub same : new.by ≡ old.by
 

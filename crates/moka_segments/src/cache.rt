@@ -8,8 +8,10 @@ ghost use Rattle.moka_segments.specs.Calls.{Makes, MakesAll, Sums};
 ghost use Rattle.moka_segments.specs.Plan.{place_of};
 ghost use Rattle.moka_segments.specs.Session.{ByGuest};
 ghost use Rattle.moka_segments.specs.Tells.{Gets, GetsOrInserts, Inserts, Looks, Peeks, Removes, TimedInserts, TriesToInsert};
-ghost use Rattle.moka_segments.specs.TellsAll.{InvalidatesAllIf, TellsSnapshot};
+ghost use Rattle.moka_segments.specs.TellsAll.{InvalidatesAllIf, SweepsAll, TellsSnapshot};
 ghost use Rattle.moka_row.specs.Visits.{guest, newcomer};
+
+mod probes;
 
 use crate::builder::CacheBuilder;
 use crate::invalidate_if::invalidate_entries_if;
@@ -17,6 +19,7 @@ use crate::iter::snapshot;
 use crate::rule::{Rule, Unruled};
 use crate::session::Session;
 use crate::shared::Shared;
+use crate::sweep::remove_expired;
 use crate::weigher::Weighing;
 use crate::{all, call, make};
 use moka_common::error::{InsertError, OutOfMemory};
@@ -333,6 +336,17 @@ impl<
         let shared = &*self.shared;
         let mut caller = come(&shared.table.shared);
         invalidate_entries_if(rt, shared, &mut caller, predicate, &mut NoListener);
+    }
+
+    /// Removes all expired entries, also those behind unexpired ones, one segment after another: see `unsync::Cache::remove_expired`.
+    pub fn remove_expired<R: Wait>(&self, rt: &R, now: Instant)
+        requires owns { (seat : ℕ) (key : K) → P.rules.owns (guest seat) key }
+        ensures made { ByGuest {K = K} {V = V} {S = S} {W = W} self.now.plan (λ old new. SweepsAll (keys_by K.Hash S.BuildHasher
+            S.Hasher.Hasher) W.weighs P.rules self.now.plan now old self.now.plan.count new) }
+    {
+        let shared = &*self.shared;
+        let mut caller = come(&shared.table.shared);
+        remove_expired(rt, shared, &mut caller, now, &mut NoListener);
     }
 
     /// Returns the number of entries, counted one segment after another.

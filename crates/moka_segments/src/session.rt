@@ -1,19 +1,20 @@
 //! Sessions: who calls a cache of segments, and knows what it called.
 ghost use Rattle.std.specs.Prelude.{◌≡◌, Ok, IfOk};
 ghost use Rattle.moka_common.specs.Keys.{keys_by};
-ghost use Rattle.moka_unsync_model.specs.Step.{Done, EntryCount, Invalidate, InvalidateAll, WeightedSize};
-ghost use Rattle.moka_segments.specs.Calls.{Makes, MakesAll, Sums};
+ghost use Rattle.moka_unsync_model.specs.Step.{Done, EntryCount, Invalidate, WeightedSize};
+ghost use Rattle.moka_segments.specs.Calls.{Makes, Sums};
 ghost use Rattle.moka_row.specs.Kept.{Hears};
-ghost use Rattle.moka_segments.specs.Notifying.{TellsAt, TellsEach};
+ghost use Rattle.moka_segments.specs.Notifying.{TellsAt};
 ghost use Rattle.moka_segments.specs.Plan.{place_of};
 ghost use Rattle.moka_segments.specs.Tells.{Gets, GetsOrInserts, Looks, Peeks, Removes, TriesToInsert};
-ghost use Rattle.moka_segments.specs.TellsAll.{InvalidatesAllIf, TellsSnapshot};
+ghost use Rattle.moka_segments.specs.TellsAll.{TellsSnapshot};
 
 mod insert;
 mod listener;
+mod probes;
+mod sweeps;
 
 use crate::account::Caller;
-use crate::invalidate_if::invalidate_entries_if;
 use crate::iter::snapshot;
 use crate::note::Note;
 use crate::rule::{Rule, Unruled};
@@ -296,42 +297,6 @@ impl<
             now,
             &mut self.listener,
         )
-    }
-
-    /// Removes all entries, one segment after another.
-    pub fn invalidate_all<R: Wait>(&mut self, rt: &R)
-        requires owns { (key : K) → P.rules.owns self.old.knows.by key }
-        ensures same { self.new.cache ≡ self.old.cache }
-        ensures made { MakesAll (keys_by K.Hash S.BuildHasher S.Hasher.Hasher) W.weighs P.rules self.old.cache.plan self.old.knows
-            self.old.cache.plan.count (λ _. InvalidateAll) (λ _. Done) self.new.knows }
-        ensures told { TellsEach L.hears (keys_by K.Hash S.BuildHasher S.Hasher.Hasher) self.new.knows.seen self.old.cache.plan.count
-            self.old.listener self.new.listener }
-    {
-        all::invalidate_all(rt, &*self.shared, &mut self.caller, &mut self.listener);
-    }
-
-    /// Removes the entries for which the predicate returns `true`, one segment after another. It is called once for each entry, in order of use, and copied
-    /// for each segment. It must not call this cache, which would wait for itself.
-    pub fn invalidate_entries_if<F: FnMut(&K, &V) -> bool + Copy, R: Wait>(
-        &mut self,
-        rt: &R,
-        predicate: F,
-    )
-        requires predicate { F.IsAlwaysCallable predicate }
-        requires owns { (key : K) → P.rules.owns self.old.knows.by key }
-        ensures same { self.new.cache ≡ self.old.cache }
-        ensures made { InvalidatesAllIf (keys_by K.Hash S.BuildHasher S.Hasher.Hasher) W.weighs P.rules self.old.cache.plan F.step predicate
-            self.old.knows self.old.cache.plan.count self.new.knows }
-        ensures told { TellsEach L.hears (keys_by K.Hash S.BuildHasher S.Hasher.Hasher) self.new.knows.seen self.old.cache.plan.count
-            self.old.listener self.new.listener }
-    {
-        invalidate_entries_if(
-            rt,
-            &*self.shared,
-            &mut self.caller,
-            predicate,
-            &mut self.listener,
-        );
     }
 }
 

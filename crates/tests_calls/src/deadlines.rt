@@ -156,7 +156,7 @@ fn a_cache_without_a_time_to_live_refuses(rt: HostRuntime) -> Result<(), Fail> {
     Ok(())
 }
 
-// The replaced value is told as expired if its own time has passed, and else as replaced.
+// The listener hears of the replaced value as expired if its own time has passed, and else as replaced.
 #[test]
 fn a_listener_hears_of_deadlines(rt: HostRuntime) -> Result<(), Fail> {
     let mut cache = numbers(rt.alloc())?.with_listener(Statistics::default());
@@ -206,7 +206,7 @@ fn a_refused_insert_with_a_time_to_live_changes_nothing(rt: HostRuntime) -> Resu
     Ok(())
 }
 
-/// What a session and a guest find of keys with deadlines of their own: at their last nanosecond, and after it.
+/// The answers to a session and a guest for keys with deadlines of their own, at their last nanosecond and after it.
 fn found_in_segments<R: Wait>(rt: &R, alloc: Global) -> Result<[Option<u64>; 4], Fail> {
     let builder = SegmentedCache::builder(alloc)
         .max_capacity(100)
@@ -246,5 +246,34 @@ fn segments_keep_deadlines(rt: HostRuntime) -> Result<(), Fail> {
     assert_eq!(rt; found, [Some(10), None, Some(20), None]);
     let refused = [Err(TimedInsertError::NoTimeToLive); 2];
     assert_eq!(rt; refused_in_segments(&rt, rt.alloc())?, (refused, 0));
+    Ok(())
+}
+
+/// The entries of a cache of segments before and after a session removes what is expired, and what its listener got.
+fn left_in_segments<R: Wait>(rt: &R, alloc: Global) -> Result<(u64, u64, u64, u64), Fail> {
+    let builder = SegmentedCache::builder(alloc)
+        .max_capacity(100)
+        .num_segments(4);
+    let cache: SegmentedCache<u64, u64> = builder.time_to_live(Duration::from_nanos(10)).build()?;
+    let mut session = cache.session()?.with_listener(Statistics::default());
+    for key in 0..8u64 {
+        session.insert(rt, key, key, at(0))?;
+        session.insert_with_time_to_live(rt, key.saturating_add(100), key, five(), at(0))?;
+    }
+    cache.remove_expired(rt, at(4));
+    let before = cache.entry_count(rt);
+    session.remove_expired(rt, at(5));
+    let after = cache.entry_count(rt);
+    Ok((
+        before,
+        after,
+        session.listener().expired,
+        session.listener().explicit,
+    ))
+}
+
+#[test]
+fn segments_remove_what_is_expired(rt: HostRuntime) -> Result<(), Fail> {
+    assert_eq!(rt; left_in_segments(&rt, rt.alloc())?, (16, 8, 8, 0));
     Ok(())
 }

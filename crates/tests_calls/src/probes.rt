@@ -1,10 +1,12 @@
 // Look-ups by something borrowed that stands for a key.
 use moka_common::lookup::Lookup;
 use moka_common::time::Instant;
+use moka_segments::cache::SegmentedCache;
 use moka_unsync::cache::Cache;
 use moka_unsync_model::listener::Statistics;
 use std::alloc::Global;
 use std::hash::Hash;
+use std::sync::Wait;
 use std::test::Fail;
 use std::time::Duration;
 
@@ -116,5 +118,77 @@ fn each_kind_of_probe_tells_keys_apart(rt: HostRuntime) -> Result<(), Fail> {
         tells_apart(alloc, (text()?, 7u32), ("key", &7), ("kex", &7))?,
     ];
     assert_eq!(rt; found, [true; 7]);
+    Ok(())
+}
+
+/// A cache of segments for texts, of which an entry lives for ten nanoseconds after its last use.
+fn shared_lengths<R: Wait>(rt: &R, alloc: Global) -> Result<SegmentedCache<String, usize>, Fail> {
+    let builder = SegmentedCache::builder(alloc)
+        .max_capacity(100)
+        .num_segments(4);
+    let cache: SegmentedCache<String, usize> = builder
+        .time_to_idle(Duration::from_nanos(10))
+        .build()?;
+    for text in ["alice", "bob", "erin"] {
+        cache.insert(rt, String::from_str(alloc, text)?, text.len(), at(0))?;
+    }
+    Ok(cache)
+}
+
+/// The answers to a session, and the number of entries that its listener got as removed and as expired.
+fn found_by_a_session<R: Wait>(
+    rt: &R,
+    alloc: Global,
+) -> Result<([Option<usize>; 6], [bool; 2], u64, u64), Fail> {
+    let cache = shared_lengths(rt, alloc)?;
+    let mut session = cache.session()?.with_listener(Statistics::default());
+    let found = [
+        session.get_by(rt, "alice", at(1))?,
+        session.get_by(rt, "carol", at(1))?,
+        session.peek_by(rt, "bob", at(1))?,
+        session.peek_by(rt, "carol", at(1))?,
+        session.remove_by(rt, "carol", at(1)),
+        session.remove_by(rt, "bob", at(1)),
+    ];
+    session.invalidate_by(rt, "carol", at(1));
+    session.invalidate_by(rt, "alice", at(1));
+    let there = [
+        session.contains_by(rt, "erin", at(9)),
+        session.contains_by(rt, "erin", at(10)),
+    ];
+    let told = session.into_listener();
+    Ok((found, there, told.explicit, told.expired))
+}
+
+#[test]
+fn a_text_stands_for_a_string_in_a_session(rt: HostRuntime) -> Result<(), Fail> {
+    let (found, there, explicit, expired) = found_by_a_session(&rt, rt.alloc())?;
+    assert_eq!(rt; found, [Some(5), None, Some(3), None, None, Some(3)]);
+    assert_eq!(rt; (there, explicit, expired), ([true, false], 1, 1));
+    Ok(())
+}
+
+/// The answers to guests, of which a get alone makes an entry live longer, and the number of entries at the end.
+fn found_by_guests<R: Wait>(rt: &R, alloc: Global) -> Result<([Option<usize>; 6], u64), Fail> {
+    let cache = shared_lengths(rt, alloc)?;
+    let _ = cache.peek_by(rt, "bob", at(5))?;
+    let _ = cache.contains_by(rt, "bob", at(5));
+    let found = [
+        cache.get_by(rt, "alice", at(5))?,
+        cache.remove_by(rt, "erin", at(9)),
+        cache.remove_by(rt, "erin", at(9)),
+        cache.peek_by(rt, "bob", at(10))?,
+        cache.get_by(rt, "alice", at(14))?,
+        cache.get_by(rt, "alice", at(24))?,
+    ];
+    cache.invalidate_by(rt, "bob", at(24));
+    Ok((found, cache.entry_count(rt)))
+}
+
+#[test]
+fn a_text_stands_for_a_string_to_a_guest(rt: HostRuntime) -> Result<(), Fail> {
+    let (found, left) = found_by_guests(&rt, rt.alloc())?;
+    assert_eq!(rt; found, [Some(5), Some(4), None, None, Some(5), None]);
+    assert_eq!(rt; left, 0);
     Ok(())
 }
