@@ -175,13 +175,13 @@ def gen_unsync(r):
     s = Settings(r, "unsync")
     keys, now = keys_of(r), moments_of(r)
     w = jitter(r, [("insert", 30), ("get", 30), ("has", 6), ("invalidate", 4), ("remove", 4), ("clear", 0.7), ("drop-if", 2), ("iter", 6),
-                   ("count", 5), ("weight", 5), ("policy", 0.5), ("gets", 4)])
+                   ("count", 5), ("weight", 5), ("policy", 0.5), ("gets", 4), ("modify", 5), ("expire", 2)])
     lines = [s.first()]
     for _ in range(length_of(r)):
         k = r.choice(keys)
         name = pick(r, w)
-        if name == "insert":
-            lines.append("%d insert %d %s%s" % (now(), k, text_of(r), s.weight(r)))
+        if name in ("insert", "modify"):
+            lines.append("%d %s %d %s%s" % (now(), name, k, text_of(r), s.weight(r)))
         elif name in ("get", "has", "invalidate", "remove"):
             lines.append("%d %s %d" % (now(), name, k))
         elif name == "gets":
@@ -304,7 +304,7 @@ class WindowScript:
         else:
             self.fill()
         shares = [("new", 20), ("asked", 12), ("update", 8), ("heavy", 3), ("get", 12), ("gets", 4), ("sweep", 0.5), ("burst", 1), ("nothings", 1.5),
-                  ("has", 4), ("invalidate", 2), ("remove", 2), ("clear", 0.15), ("drop-if", 0.3), ("look", 12), ("policy", 0.1), ("again", 3),
+                  ("has", 4), ("invalidate", 2), ("remove", 2), ("clear", 0.15), ("drop-if", 0.3), ("modify", 5), ("expire", 0.3), ("look", 12), ("policy", 0.1), ("again", 3),
                   ("rivals", 3), ("above", 1), ("idle", 0.7)]
         if self.s.adaptive:
             shares += [("returns", 12), ("firsts", 4), ("uses", 4)]
@@ -367,6 +367,13 @@ class WindowScript:
 
     def do_update(self):
         self.insert(self.some())
+
+    def do_modify(self):
+        end = " %d" % (self.weight() if self.r.random() < 0.8 else self.heavy_weight()) if self.s.weighed else ""
+        self.say("modify %d %s%s" % (self.some(), self.r.choice(self.texts), end))
+
+    def do_expire(self):
+        self.say("expire")
 
     def do_heavy(self):
         """Makes a heavy update, often of the last row, and up to two calls after it."""
@@ -1592,6 +1599,7 @@ FIRSTS = ["", "sync", "sync max 3", "sync tickets 3", "sync max 3 weighed ticket
           "sketch 3 adaptive"]
 OTHERS = ["0 get 0", "0 get 1 0", "0 insert 0 a", "0 insert 1 0 a", "0 insert 0 a 1", "0 insert 1 0 a 1", "0 drop-if a", "0 iter", "0 policy",
           "0 sync", "0 push 1", "0 forget 1", "0 begin", "0 turn", "0 rest", "inc 0 1", "freq 0", "len", "ensure 3", "index 0 0", "0 len",
+          "0 modify 0 a", "0 modify 0", "0 modify 0 a 1", "0 modify 0 a live 5ns", "0 modify 1 0 a", "0 expire", "0 expire 1", "expire",
           "0 has 0", "0 has 1 0", "0 invalidate 0", "0 invalidate 1 0", "0 remove 0", "0 remove 1 0", "0 remove", "0 clear", "clear", "0 count", "count", "0 weight", "0", "0 ", "",
           " ", "0 push", "0 turn 1", "0 clear 1", "0 count 0", "0 take 0", "index 0 4", "inc 0 65536", "inc 0", "len 0", "0 get", "0 insert 0",
           "0 policy 1", "0 iter 0", "0 drop-if", "0 drop-if a b", "insert 0 a", "get 0", "18446744073709551616 clear", "00 clear",

@@ -108,8 +108,8 @@ U64_, U32_, U16_, TEXT_, DEPTH_ = (
 
 LINES = {
     "unsync": {
-        b"insert": (U64_, TEXT_), b"get": (U64_,), b"has": (U64_,), b"invalidate": (U64_,), b"remove": (U64_,), b"clear": (),
-        b"drop-if": (TEXT_,), b"iter": (), b"count": (), b"weight": (), b"policy": ()},
+        b"insert": (U64_, TEXT_), b"modify": (U64_, TEXT_), b"get": (U64_,), b"has": (U64_,), b"invalidate": (U64_,), b"remove": (U64_,), b"clear": (),
+        b"expire": (), b"drop-if": (TEXT_,), b"iter": (), b"count": (), b"weight": (), b"policy": ()},
     "recorded": {
         b"insert": (U64_, TEXT_), b"get": (U64_,), b"has": (U64_,), b"invalidate": (U64_,), b"remove": (U64_,), b"clear": (),
         b"sync": (), b"count": (), b"weight": ()},
@@ -138,7 +138,8 @@ def call_line(mode, options, line):
     if name not in LINES[mode]:
         raise Bad()
     forms = LINES[mode][name]
-    if name == b"insert" and options.weighed:
+    stores = name in (b"insert", b"modify")
+    if stores and options.weighed:
         forms = forms + (U32_,)
     own = None
     if name == b"insert" and mode == "unsync" and len(words) - 1 == len(forms) + 2 and words[-2] == b"live":
@@ -147,7 +148,7 @@ def call_line(mode, options, line):
     if len(words) - 1 != len(forms):
         raise Bad()
     args = [form(word) for form, word in zip(forms, words[1:])]
-    if name == b"insert" and not options.weighed:
+    if stores and not options.weighed:
         args.append(1)
     if name == b"insert" and mode == "unsync":
         args.append(own)
@@ -590,6 +591,17 @@ class Unsync:
         if self.memory is not None and not was_on and self.table.n != 0:
             self.memory.make_tables(self.table.n)
 
+    def rewrite(self, r, value, weight, now, deadline):
+        """Gives the row another value. It is used, and written last."""
+        r.value = value
+        r.weight = weight
+        r.accessed = now
+        r.modified = now
+        r.deadline = deadline
+        self.used(r)
+        self.writes.remove(r)
+        self.writes.append(r)
+
     def call(self, now, name, a):
         if name == "policy":
             return policy_text(self.o)
@@ -607,6 +619,14 @@ class Unsync:
             return "ok"
         if name == "drop-if":
             self.leave([r for r in self.rows() if r.value == a[0]])
+            return "ok"
+        if name == "expire":
+            gone = [r for r in self.rows() if self.expired(r, now)]
+            if len(gone) > 100:
+                SEEN["unsync expire of over 100"] += 1
+            if gone:
+                SEEN["unsync expire of some"] += 1
+            self.leave(gone)
             return "ok"
         if name == "insert" and a[3] is not None and self.o.live is None:
             SEEN["unsync refused time-to-live"] += 1
@@ -643,6 +663,17 @@ class Unsync:
                 SEEN["unsync removal of an expired row that remained"] += 1
                 return "none"
             return "some " + r.value
+        if name == "modify":
+            key, value, w = a
+            r = self.row_of(key)
+            if r is None or self.expired(r, now):
+                SEEN["unsync modify of %s" % ("nothing" if r is None else "an expired row that remains")] += 1
+                return "false"
+            SEEN["unsync modify in %s" % ("the window" if r in self.window else "main")] += 1
+            if w > r.weight and self.o.max is not None and self.weight() - r.weight + w > self.o.max:
+                SEEN["unsync modify beyond the limit"] += 1
+            self.rewrite(r, value, w, now, deadline_of(self.o, None, now))
+            return "true"
         if name == "insert":
             key, value, w, own = a
             deadline = deadline_of(self.o, own, now)
@@ -652,14 +683,7 @@ class Unsync:
                     SEEN["unsync insert on an expired row that remained"] += 1
                 if deadline is not None and deadline < r.deadline:
                     SEEN["unsync update with an earlier deadline"] += 1
-                r.value = value
-                r.weight = w
-                r.accessed = now
-                r.modified = now
-                r.deadline = deadline
-                self.used(r)
-                self.writes.remove(r)
-                self.writes.append(r)
+                self.rewrite(r, value, w, now, deadline)
                 return "ok"
             new = Row(key, value, w, now)
             new.deadline = deadline

@@ -10,6 +10,7 @@ use moka_grammar::streams::{Fault, ReadError};
 use moka_record::pass::CloseError;
 use moka_record::record::NotRecorded;
 use moka_segments::error::BuildError as SegmentsError;
+use moka_unsync::error::TimedInsertError;
 use std::alloc::{AllocError, AllocFailed};
 use std::io;
 
@@ -27,6 +28,9 @@ pub enum Error {
     /// An insert is refused.
     #[error(transparent)]
     Insert(InsertError),
+    /// An insert with a time to live of its own is refused.
+    #[error(transparent)]
+    TimedInsert(TimedInsertError),
     /// A call isn't written down, and wasn't made.
     #[error(transparent)]
     NotRecorded(NotRecorded),
@@ -95,6 +99,14 @@ impl From<InsertError> for Error {
 
     fn from(cause: InsertError) -> Error {
         Error::Insert(cause)
+    }
+}
+
+impl From<TimedInsertError> for Error {
+    ghost from_gives = { λ cause error. error ≡ variant.TimedInsert cause };
+
+    fn from(cause: TimedInsertError) -> Error {
+        Error::TimedInsert(cause)
     }
 }
 

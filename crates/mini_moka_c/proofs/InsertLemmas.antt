@@ -7,7 +7,7 @@ use Rattle.moka_common.specs.Policy.{Policy}
 use Rattle.moka_unsync_model.specs.CacheState.{CacheState, room_of, windowed}
 use Rattle.moka_unsync_model.specs.Cleanup.{is_expired}
 use Rattle.moka_unsync_model.specs.Contents.{Contents, entry_at}
-use Rattle.moka_unsync_model.specs.Insert.{IsInserted, Refused, after_put, new_entry}
+use Rattle.moka_unsync_model.specs.Insert.{IsInserted, Puts, Refused, after_put, new_entry}
 use Rattle.moka_unsync_model.specs.Told.{HearsAll, TellsPut, TellsCleanup, cause_at}
 use Rattle.moka_unsync_model.specs.ToldCalls.{TellsInsert, TellsNew, kept, main_max}
 use Rattle.moka_unsync_model.specs.declared.entry.Entry.{Entry}
@@ -72,9 +72,12 @@ module _ {K V S W : Type 0} (keys : Keys K S) (laws : IsEquivalence keys.eq) {L 
   pub insert_told : (weighs : W → K → V → ℕ → W → Type 0) (old new : CacheState K V S W) (key : K) (value : V) (own : Option ℕ) (now : ℕ) (a b : L)
       → answer a ≡ Stored → IsInserted keys weighs old key value own now new → TellsInsert hears keys old now key value new a b
       → answer b ≡ inserted_of (is_some (entry_at keys.eq key new.contents.entries))
-  insert_told weighs old new key value own now a b stored inserted t =
+  insert_told weighs old new key value own now a b stored made t =
       by (entry_at keys.eq key (kept hears keys old now).entries) refl t.put
     where
+      inserted : Puts keys weighs old key value own now new
+      inserted = made.put
+
       before : answer t.between ≡ Stored
       before = cleaned hears answer turns keys.eq old.settings.policy now old.contents a t.between t.cleanup ∙ stored
 

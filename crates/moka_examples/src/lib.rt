@@ -8,5 +8,6 @@ pub mod configuration;
 pub mod metrics;
 pub mod pages;
 pub mod probes;
+pub mod saved;
 pub mod shared;
 pub mod uses;

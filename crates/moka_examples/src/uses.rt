@@ -41,6 +41,18 @@ pub fn found_within_ten_seconds(alloc: Global) -> Result<(bool, bool), Error> {
     Ok((early, late))
 }
 
+/// Counts a visit to a page: the number is changed in its place, or it is the first.
+pub fn count_visit(visits: &mut Cache<u64, u64>, page: u64, now: Instant) -> Result<(), Error> {
+    if !visits.modify(
+        &page,
+        now,
+        |count: &mut u64| *count = count.saturating_add(1),
+    ) {
+        visits.insert(page, 1, now)?;
+    }
+    Ok(())
+}
+
 /// Returns the milliseconds from midnight to a second and a half after noon.
 pub fn millis_after_noon() -> u64 {
     let noon = Instant::from_secs(12 * 60 * 60);

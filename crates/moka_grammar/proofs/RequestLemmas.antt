@@ -9,20 +9,20 @@ use Rattle.moka_grammar.specs.declared.line.CacheHeader.{CacheHeader}
 use Rattle.moka_grammar.specs.declared.line.CacheOptions.{CacheOptions}
 use Rattle.moka_grammar.specs.declared.line.Line.{Line}
 use Rattle.moka_grammar.specs.declared.line.Request.{Request}
-use Rattle.moka_grammar.specs.declared.line.Request.TheVariants.{Insert, Get, ContainsKey, Invalidate, Remove, InvalidateAll}
-use Rattle.moka_grammar.specs.declared.line.Request.TheVariants.{InvalidateIf, Sync, Iter, EntryCount, WeightedSize, Policy}
+use Rattle.moka_grammar.specs.declared.line.Request.TheVariants.{Insert, Modify, Get, ContainsKey, Invalidate, Remove, InvalidateAll}
+use Rattle.moka_grammar.specs.declared.line.Request.TheVariants.{RemoveExpired, InvalidateIf, Sync, Iter, EntryCount, WeightedSize, Policy}
 use Rattle.moka_grammar.specs.declared.line.Span.{Span}
 use Rattle.moka_grammar.specs.Options.{option_words, span_word, SpanFits}
 use Rattle.moka_grammar.specs.Lines.{allows, weight_words, request_words, line_words, WeightFits, RequestFits, LineFits}
 use Rattle.moka_grammar.specs.Reading.{◌>>=◌, number_of, text_of, no_argument, u64_of}
 use Rattle.moka_grammar.specs.ReadingOptions.{span_of, option_of}
-use Rattle.moka_grammar.specs.ReadingLines.{weight_of, insert_of, invalidate_if_of, bare_of, request_of, line_from_words}
+use Rattle.moka_grammar.specs.ReadingLines.{weight_of, insert_of, modify_of, invalidate_if_of, bare_of, request_of, line_from_words}
 use Rattle.moka_grammar.proofs.CutLemmas.{bind_some}
 use Rattle.moka_grammar.proofs.LineLemmas.{IsReading}
 use Rattle.moka_grammar.proofs.NumberLemmas.{number_of-decimal, number_of-found}
 use Rattle.moka_grammar.proofs.ArgumentLemmas.{chosen, text_of-found, text_of-text, u64_of-found}
 use Rattle.moka_grammar.proofs.CallLemmas.{IsSpelled, named, given, alone}
-use Rattle.moka_grammar.proofs.WeightLemmas.{weight_of-found, weight_of-again, weight_words_are}
+use Rattle.moka_grammar.proofs.WeightLemmas.{last_weight-again, last_weight-found, weight_of-found, weight_of-again, weight_words_are}
 use Rattle.moka_grammar.proofs.OptionLemmas.{last_live-found, last_live-again, live_words_are}
 use Rattle.moka_grammar.proofs.WordLemmas.{IsWord, IsWord-decimal, IsWord-text, IsWord-name, are_words-append}
 
@@ -73,6 +73,29 @@ module _ (options : CacheOptions) where
         (keys.1, texts.1, ends.1, ends.2),
       )
 
+  -- what is read as a modification is spelled so
+  modify_of-found : (arguments : List (List ℕ)) (r : Request (List ℕ)) → modify_of options arguments ≡ Some r
+      → IsRequest (codes "modify") arguments r
+  unfolding modify_of
+  modify_of-found [] r e = absurd cc
+  modify_of-found (key ∷ []) r e = absurd cc
+  modify_of-found (key ∷ text ∷ behind) r e =
+      let (k, key_is, others) = bind_some (number_of key) (λ k. weight_of options.weighed behind >>= λ w.
+      no_argument w.1 >>= λ none. text_of text >>= λ t. Some (Modify k t w.0)) r e in
+      let (w, weight_is, more) = bind_some (weight_of options.weighed behind) (λ w.
+      no_argument w.1 >>= λ none. text_of text >>= λ t. Some (Modify k t w.0)) r others in
+      let (none, none_is, rest) = bind_some (no_argument w.1) (λ none. text_of text >>= λ t. Some (Modify k t w.0)) r more in
+      let (t, text_is, shown) = bind_some (text_of text) (λ t. Some (Modify k t w.0)) r rest in
+      let keys = number_of-found key k key_is in
+      let weights = last_weight-found options.weighed behind w none weight_is none_is in
+      let texts = text_of-found text t text_is in
+      subst (IsRequest (codes "modify") (key ∷ text ∷ behind)) (same_Some _ _ shown) (
+        ap (λ l. codes "modify" ∷ l ∷ text ∷ behind) keys.0
+            ∙ ap (λ l. codes "modify" ∷ decimal k ∷ l ∷ behind) texts.0
+            ∙ ap (λ l. codes "modify" ∷ decimal k ∷ t ∷ l) weights.0,
+        (keys.1, texts.1, weights.1),
+      )
+
   -- a request with a key alone is spelled by its name and the key
   keyed : (call name : List ℕ) (arguments : List (List ℕ)) (make : ℕ → Request (List ℕ)) (r : Request (List ℕ))
       → ((k : ℕ) → request_words (make k) ≡ name ∷ decimal k ∷ []) → ((k : ℕ) → k < 2 ^ 64 → RequestFits options.weighed (make k))
@@ -98,18 +121,21 @@ module _ (options : CacheOptions) where
   bare_of-found call [] r e =
       elim (chosen (bytes_eq call (codes "clear")) _ _ _ e) [
         | inl clear ↦ alone request_words (RequestFits options.weighed) call (codes "clear") InvalidateAll r refl tt clear.0 clear.1
-        | inr not_clear ↦ elim (chosen (bytes_eq call (codes "sync")) _ _ _ not_clear.1) [
-          | inl sync ↦ alone request_words (RequestFits options.weighed) call (codes "sync") Sync r refl tt sync.0 sync.1
-          | inr not_sync ↦ elim (chosen (bytes_eq call (codes "iter")) _ _ _ not_sync.1) [
-            | inl iter ↦ alone request_words (RequestFits options.weighed) call (codes "iter") Iter r refl tt iter.0 iter.1
-            | inr not_iter ↦ elim (chosen (bytes_eq call (codes "count")) _ _ _ not_iter.1) [
-              | inl count ↦ alone request_words (RequestFits options.weighed) call (codes "count") EntryCount r refl tt count.0 count.1
-              | inr not_count ↦ elim (chosen (bytes_eq call (codes "weight")) _ _ _ not_count.1) [
-                | inl weight ↦ alone request_words (RequestFits options.weighed) call (codes "weight") WeightedSize r refl tt
-                    weight.0 weight.1
-                | inr not_weight ↦ elim (chosen (bytes_eq call (codes "policy")) _ _ _ not_weight.1) [
-                  | inl policy ↦ alone request_words (RequestFits options.weighed) call (codes "policy") Policy r refl tt policy.0 policy.1
-                  | inr not_policy ↦ absurd (let none = not_policy.1 in cc)
+        | inr not_clear ↦ elim (chosen (bytes_eq call (codes "expire")) _ _ _ not_clear.1) [
+          | inl expire ↦ alone request_words (RequestFits options.weighed) call (codes "expire") RemoveExpired r refl tt expire.0 expire.1
+          | inr not_expire ↦ elim (chosen (bytes_eq call (codes "sync")) _ _ _ not_expire.1) [
+            | inl sync ↦ alone request_words (RequestFits options.weighed) call (codes "sync") Sync r refl tt sync.0 sync.1
+            | inr not_sync ↦ elim (chosen (bytes_eq call (codes "iter")) _ _ _ not_sync.1) [
+              | inl iter ↦ alone request_words (RequestFits options.weighed) call (codes "iter") Iter r refl tt iter.0 iter.1
+              | inr not_iter ↦ elim (chosen (bytes_eq call (codes "count")) _ _ _ not_iter.1) [
+                | inl count ↦ alone request_words (RequestFits options.weighed) call (codes "count") EntryCount r refl tt count.0 count.1
+                | inr not_count ↦ elim (chosen (bytes_eq call (codes "weight")) _ _ _ not_count.1) [
+                  | inl weight ↦ alone request_words (RequestFits options.weighed) call (codes "weight") WeightedSize r refl tt
+                      weight.0 weight.1
+                  | inr not_weight ↦ elim (chosen (bytes_eq call (codes "policy")) _ _ _ not_weight.1) [
+                    | inl policy ↦ alone request_words (RequestFits options.weighed) call (codes "policy") Policy r refl tt policy.0 policy.1
+                    | inr not_policy ↦ absurd (let none = not_policy.1 in cc)
+                  ]
                 ]
               ]
             ]
@@ -135,10 +161,14 @@ module _ (options : CacheOptions) where
               | inr not_invalidate ↦ elim (chosen (bytes_eq call (codes "remove")) _ _ _ not_invalidate.1) [
                 | inl remove ↦ keyed call (codes "remove") arguments (λ k. Remove k) r (λ k. refl)
                     (λ k h. h) remove.0 remove.1
-                | inr not_remove ↦ elim (chosen (bytes_eq call (codes "drop-if")) _ _ _ not_remove.1) [
-                  | inl drop_if ↦ named request_words (RequestFits options.weighed) call (codes "drop-if") arguments r drop_if.0
-                      (invalidate_if_of-found arguments r drop_if.1)
-                  | inr not_drop_if ↦ bare_of-found call arguments r not_drop_if.1
+                | inr not_remove ↦ elim (chosen (bytes_eq call (codes "modify")) _ _ _ not_remove.1) [
+                  | inl modify ↦ named request_words (RequestFits options.weighed) call (codes "modify") arguments r modify.0
+                      (modify_of-found arguments r modify.1)
+                  | inr not_modify ↦ elim (chosen (bytes_eq call (codes "drop-if")) _ _ _ not_modify.1) [
+                    | inl drop_if ↦ named request_words (RequestFits options.weighed) call (codes "drop-if") arguments r drop_if.0
+                        (invalidate_if_of-found arguments r drop_if.1)
+                    | inr not_drop_if ↦ bare_of-found call arguments r not_drop_if.1
+                  ]
                 ]
               ]
             ]
@@ -153,11 +183,16 @@ module _ (options : CacheOptions) where
   request_words_are (Insert key text weight live) fits =
       let ends = are_words-append _ _ (weight_words_are options.weighed weight fits.2) (live_words_are live fits.3) in
       (IsWord-name (codes "insert") refl, (IsWord-decimal key fits.0, (IsWord-text text fits.1, ends)))
+  request_words_are (Modify key text weight) fits = (
+    IsWord-name (codes "modify") refl,
+    (IsWord-decimal key fits.0, (IsWord-text text fits.1, weight_words_are options.weighed weight fits.2)),
+  )
   request_words_are (Get key) fits = (IsWord-name (codes "get") refl, (IsWord-decimal key fits, tt))
   request_words_are (ContainsKey key) fits = (IsWord-name (codes "has") refl, (IsWord-decimal key fits, tt))
   request_words_are (Invalidate key) fits = (IsWord-name (codes "invalidate") refl, (IsWord-decimal key fits, tt))
   request_words_are (Remove key) fits = (IsWord-name (codes "remove") refl, (IsWord-decimal key fits, tt))
   request_words_are InvalidateAll fits = (IsWord-name (codes "clear") refl, tt)
+  request_words_are RemoveExpired fits = (IsWord-name (codes "expire") refl, tt)
   request_words_are (InvalidateIf text) fits = (IsWord-name (codes "drop-if") refl, (IsWord-text text fits, tt))
   request_words_are Sync fits = (IsWord-name (codes "sync") refl, tt)
   request_words_are Iter fits = (IsWord-name (codes "iter") refl, tt)
@@ -187,7 +222,7 @@ module _ (header : CacheHeader) where
   -- the words of a line are read as that line
   line_again : (n : ℕ) (r : Request (List ℕ)) → n < 2 ^ 64 → IsTrue (allows header.mode r) → RequestFits header.options.weighed r
       → line_from_words header (decimal n ∷ request_words r) ≡ Some (record { now = n; request = r })
-  unfolding line_from_words request_of insert_of invalidate_if_of bare_of u64_of no_argument
+  unfolding line_from_words request_of insert_of modify_of invalidate_if_of bare_of u64_of no_argument
   line_again n (Insert key text weight live) small allowed fits =
       rw (
         number_of-decimal n small,
@@ -197,11 +232,20 @@ module _ (header : CacheHeader) where
         text_of-text text fits.1,
         allowed,
       ) refl
+  line_again n (Modify key text weight) small allowed fits =
+      rw (
+        number_of-decimal n small,
+        number_of-decimal key fits.0,
+        last_weight-again header.options.weighed weight fits.2,
+        text_of-text text fits.1,
+        allowed,
+      ) refl
   line_again n (Get key) small allowed fits = rw (number_of-decimal n small, number_of-decimal key fits, allowed) refl
   line_again n (ContainsKey key) small allowed fits = rw (number_of-decimal n small, number_of-decimal key fits, allowed) refl
   line_again n (Invalidate key) small allowed fits = rw (number_of-decimal n small, number_of-decimal key fits, allowed) refl
   line_again n (Remove key) small allowed fits = rw (number_of-decimal n small, number_of-decimal key fits, allowed) refl
   line_again n InvalidateAll small allowed fits = rw (number_of-decimal n small, allowed) refl
+  line_again n RemoveExpired small allowed fits = rw (number_of-decimal n small, allowed) refl
   line_again n (InvalidateIf text) small allowed fits = rw (number_of-decimal n small, text_of-text text fits, allowed) refl
   line_again n Sync small allowed fits = rw (number_of-decimal n small, allowed) refl
   line_again n Iter small allowed fits = rw (number_of-decimal n small, allowed) refl

@@ -8,8 +8,8 @@ use Rattle.moka_grammar.specs.declared.line.Mode.{Mode}
 use Rattle.moka_grammar.specs.declared.line.Mode.TheVariants as mode
 use Rattle.moka_grammar.specs.declared.line.Line.{Line}
 use Rattle.moka_grammar.specs.declared.line.Request.{Request}
-use Rattle.moka_grammar.specs.declared.line.Request.TheVariants.{Insert, Get, ContainsKey, Invalidate, Remove, InvalidateAll}
-use Rattle.moka_grammar.specs.declared.line.Request.TheVariants.{InvalidateIf, Sync, Iter, EntryCount, WeightedSize, Policy}
+use Rattle.moka_grammar.specs.declared.line.Request.TheVariants.{Insert, Modify, Get, ContainsKey, Invalidate, Remove, InvalidateAll}
+use Rattle.moka_grammar.specs.declared.line.Request.TheVariants.{RemoveExpired, InvalidateIf, Sync, Iter, EntryCount, WeightedSize, Policy}
 
 -- the word of a weight, where there is one
 abbrev pub weight_words : Option ℕ → List (List ℕ)
@@ -20,11 +20,13 @@ weight_words (Some weight) = decimal weight ∷ []
 abbrev pub request_words : Request (List ℕ) → List (List ℕ)
 request_words (Insert key text weight live) =
     codes "insert" ∷ decimal key ∷ text ∷ (weight_words weight ++ option_words (codes "live") span_word live)
+request_words (Modify key text weight) = codes "modify" ∷ decimal key ∷ text ∷ weight_words weight
 request_words (Get key) = codes "get" ∷ decimal key ∷ []
 request_words (ContainsKey key) = codes "has" ∷ decimal key ∷ []
 request_words (Invalidate key) = codes "invalidate" ∷ decimal key ∷ []
 request_words (Remove key) = codes "remove" ∷ decimal key ∷ []
 request_words InvalidateAll = codes "clear" ∷ []
+request_words RemoveExpired = codes "expire" ∷ []
 request_words (InvalidateIf text) = codes "drop-if" ∷ text ∷ []
 request_words Sync = codes "sync" ∷ []
 request_words Iter = codes "iter" ∷ []
@@ -39,11 +41,15 @@ line_words line = decimal line.now ∷ request_words line.request
 -- whether the request is one of a script of this mode
 abbrev pub allows : {T : Type 0} → Mode → Request T → Bool
 allows mode.Recorded (Insert key text weight (Some live)) = false
+allows mode.Recorded (Modify key text weight) = false
+allows mode.Recorded RemoveExpired = false
 allows mode.Recorded (InvalidateIf text) = false
 allows mode.Recorded Iter = false
 allows mode.Recorded Policy = false
 allows mode.Recorded request = true
 allows mode.Sync (Insert key text weight (Some live)) = false
+allows mode.Sync (Modify key text weight) = false
+allows mode.Sync RemoveExpired = false
 allows mode.Sync (InvalidateIf text) = false
 allows mode.Sync request = true
 allows mode.Unsync Sync = false
@@ -59,6 +65,7 @@ WeightFits false None = Unit {0}
 -- the request holds what can be spelled, where the script is weighed or not
 abbrev pub RequestFits : Bool → Request (List ℕ) → Type 0
 RequestFits weighed (Insert key text weight live) = (key < 2 ^ 64) × IsText text × WeightFits weighed weight × IfSome live SpanFits
+RequestFits weighed (Modify key text weight) = (key < 2 ^ 64) × IsText text × WeightFits weighed weight
 RequestFits weighed (Get key) = key < 2 ^ 64
 RequestFits weighed (ContainsKey key) = key < 2 ^ 64
 RequestFits weighed (Invalidate key) = key < 2 ^ 64

@@ -14,8 +14,8 @@ use Rattle.moka_grammar.specs.declared.line.Mode.{Mode}
 use Rattle.moka_grammar.specs.declared.line.Mode.TheVariants as mode
 use Rattle.moka_grammar.specs.declared.line.Line.{Line}
 use Rattle.moka_grammar.specs.declared.line.Request.{Request}
-use Rattle.moka_grammar.specs.declared.line.Request.TheVariants.{Insert, Get, ContainsKey, Invalidate, Remove, InvalidateAll}
-use Rattle.moka_grammar.specs.declared.line.Request.TheVariants.{InvalidateIf, Sync, Iter, EntryCount, WeightedSize, Policy}
+use Rattle.moka_grammar.specs.declared.line.Request.TheVariants.{Insert, Modify, Get, ContainsKey, Invalidate, Remove, InvalidateAll}
+use Rattle.moka_grammar.specs.declared.line.Request.TheVariants.{RemoveExpired, InvalidateIf, Sync, Iter, EntryCount, WeightedSize, Policy}
 use Rattle.moka_grammar.specs.declared.line.SketchLine.{SketchLine}
 use Rattle.moka_grammar.specs.declared.line.SketchLine.TheVariants.{Inc, Freq, Index, Len, Ensure}
 
@@ -70,6 +70,16 @@ insert_of options (key ∷ text ∷ behind) = do
   Some (Insert k t weight.0 live.0)
 insert_of options _ = None
 
+-- what a modification is given
+unfoldable pub modify_of : CacheOptions → List (List ℕ) → Option (Request (List ℕ))
+modify_of options (key ∷ text ∷ behind) = do
+  k ← number_of key
+  weight ← weight_of options.weighed behind
+  nothing ← no_argument weight.1
+  t ← text_of text
+  Some (Modify k t weight.0)
+modify_of options _ = None
+
 -- the only argument, a text
 unfoldable pub invalidate_if_of : List (List ℕ) → Option (Request (List ℕ))
 invalidate_if_of (text ∷ []) = do
@@ -82,6 +92,7 @@ unfoldable pub bare_of : List ℕ → List (List ℕ) → Option (Request (List 
 bare_of call arguments = do
   nothing ← no_argument arguments
   (if bytes_eq call (codes "clear") then Some InvalidateAll
+      else if bytes_eq call (codes "expire") then Some RemoveExpired
       else if bytes_eq call (codes "sync") then Some Sync
       else if bytes_eq call (codes "iter") then Some Iter
       else if bytes_eq call (codes "count") then Some EntryCount
@@ -105,6 +116,7 @@ request_of options call arguments =
     else if bytes_eq call (codes "remove") then (do
       key ← u64_of arguments
       Some (Remove key))
+    else if bytes_eq call (codes "modify") then modify_of options arguments
     else if bytes_eq call (codes "drop-if") then invalidate_if_of arguments
     else bare_of call arguments
 

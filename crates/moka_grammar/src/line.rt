@@ -44,9 +44,11 @@ impl Mode {
     {
         match (self, request) {
             (Mode::Recorded | Mode::Sync, Request::Insert { live: Some(_), .. }) => false,
-            (Mode::Recorded, Request::InvalidateIf { .. } | Request::Iter | Request::Policy) =>
-                false,
-            (Mode::Sync, Request::InvalidateIf { .. }) => false,
+            (
+                Mode::Recorded | Mode::Sync,
+                Request::Modify { .. } | Request::RemoveExpired | Request::InvalidateIf { .. },
+            ) => false,
+            (Mode::Recorded, Request::Iter | Request::Policy) => false,
             (Mode::Unsync, Request::Sync) => false,
             _ => true,
         }
@@ -111,6 +113,12 @@ pub enum Request<T = Text> {
         weight: Option<u32>,
         live: Option<Span>,
     },
+    /// Changes the text of the key's entry, if there is one. The weight is there as in an insert.
+    Modify {
+        key: u64,
+        text: T,
+        weight: Option<u32>,
+    },
     Get {
         key: u64,
     },
@@ -127,6 +135,8 @@ pub enum Request<T = Text> {
     },
     /// Removes all entries.
     InvalidateAll,
+    /// Removes all expired entries.
+    RemoveExpired,
     /// Removes the entries whose text is this one.
     InvalidateIf {
         text: T,

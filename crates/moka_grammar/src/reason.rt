@@ -116,6 +116,8 @@ fn is_of_cache(mode: &[u8], request: &[u8]) -> bool {
     let is_unsync = mode == b"unsync".as_slice();
     let is_recorded = mode == b"recorded".as_slice();
     is_of_all(request)
+        || is_unsync && request == b"modify".as_slice()
+        || is_unsync && request == b"expire".as_slice()
         || is_unsync && request == b"drop-if".as_slice()
         || !is_unsync && request == b"sync".as_slice()
         || !is_recorded && (request == b"iter".as_slice() || request == b"policy".as_slice())

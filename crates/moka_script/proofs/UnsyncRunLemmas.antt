@@ -14,12 +14,12 @@ use Rattle.moka_grammar.specs.declared.line.Line.{Line}
 use Rattle.moka_grammar.specs.declared.line.Mode.{Mode}
 use Rattle.moka_grammar.specs.declared.line.Request.{Request}
 use Rattle.moka_grammar.specs.declared.line.Request.TheVariants.{Insert, Get, ContainsKey, Invalidate, Remove, InvalidateAll}
-use Rattle.moka_grammar.specs.declared.line.Request.TheVariants.{InvalidateIf, Sync, Iter, EntryCount, WeightedSize, Policy}
+use Rattle.moka_grammar.specs.declared.line.Request.TheVariants.{Modify, RemoveExpired, InvalidateIf, Sync, Iter, EntryCount, WeightedSize, Policy}
 use Rattle.moka_grammar.specs.Lines.{allows, WeightFits, RequestFits, LineFits}
 use Rattle.moka_unsync.specs.declared.entry.Entry.{Entry}
 use Rattle.moka_unsync.specs.Builder.{share_fault}
 use Rattle.moka_unsync.specs.CacheState.{new_cache}
-use Rattle.moka_unsync.specs.Insert.{IsInserted, IsRefused}
+use Rattle.moka_unsync.specs.Insert.{IsInserted, IsRefused, Modifies, Puts}
 use Rattle.moka_unsync.specs.Invalidate.{AnswersInTurn}
 use Rattle.moka_unsync.specs.Shares.{adaptive, default_shares}
 use Rattle.moka_unsync.specs.Step as machine
@@ -67,28 +67,46 @@ module _ {P K V : Type 0} (calls : P → Bor K → Bor V → Bool → P → Type
       is ∙ ap (λ a. a ∷ rest) (said ∙ ap says at.shown.1)
       ∙ ap (λ l. says entry.value ∷ l) (answers_are entries rest (subst (λ p. AnswersInTurn calls p entries rest) stays more))
 
--- where a weigher answers what is stored, an insert is one of the script's machine
-pub stored_insert : {W : Type 0} (weighs : W → ℕ → Stored (List ℕ) → ℕ → W → Type 0) (old new : ScriptCache W) (key : ℕ)
+-- where a weigher answers what is stored, what is put is so in the script's machine
+stored_put : {W : Type 0} (weighs : W → ℕ → Stored (List ℕ) → ℕ → W → Type 0) (old new : ScriptCache W) (key : ℕ)
     (value : Stored (List ℕ)) (own : Option ℕ) (now : ℕ)
-    → AnswersStored weighs key value → IsInserted script_keys weighs old key value own now new
-    → IsInserted script_keys stored_weighs old key value own now new
-stored_insert weighs old new key value own now answers inserted = record {
-  weight = inserted.weight;
-  weigher = inserted.weigher;
-  refused = inserted.refused;
-  capacity = inserted.capacity;
-  grown = inserted.grown;
-  kept = inserted.kept;
-  weighed = answers old.weigher inserted.weigher inserted.weight inserted.weighed;
-  small = inserted.small;
-  step = inserted.step;
+    → AnswersStored weighs key value → Puts script_keys weighs old key value own now new
+    → Puts script_keys stored_weighs old key value own now new
+stored_put weighs old new key value own now answers put = record {
+  weight = put.weight;
+  weigher = put.weigher;
+  refused = put.refused;
+  capacity = put.capacity;
+  room = put.room;
+  kept = put.kept;
+  weighed = answers old.weigher put.weigher put.weight put.weighed;
+  small = put.small;
+  step = put.step;
 }
+
+-- so is what is modified, where a change leaves what is to be stored
+pub stored_modified : {W : Type 0} (weighs : W → ℕ → Stored (List ℕ) → ℕ → W → Type 0) (changes : Stored (List ℕ) → Stored (List ℕ) → Type 0)
+    (old new : ScriptCache W) (key : ℕ) (stored : Stored (List ℕ)) (now : ℕ) (there : Bool) → AnswersStored weighs key stored
+    → ((before after : Stored (List ℕ)) → changes before after → after ≡ stored) → Modifies script_keys weighs changes there old key now new
+    → Modifies script_keys stored_weighs (λ before after. after ≡ stored) there old key now new
+unfolding stored_put
+stored_modified weighs changes old new key stored now true answers leaves modified =
+    let is : modified.value ≡ stored = leaves modified.entry.value modified.value modified.changed in
+    record {
+      entry = modified.entry;
+      value = modified.value;
+      found = modified.found;
+      changed = is;
+      put = stored_put weighs old new key modified.value None now (subst (AnswersStored weighs key) (sym is) answers) modified.put;
+      same = modified.same;
+    }
+stored_modified weighs changes old new key stored now false answers leaves looked = looked
 
 module _ {W : Type 0} (old new : ScriptCache W) (key : ℕ) (value : Stored (List ℕ)) (own : Option ℕ) (now : ℕ) where
   -- an insert that was made is told so
   pub insert_made : (weighs : W → ℕ → Stored (List ℕ) → ℕ → W → Type 0) → AnswersStored weighs key value
       → IsInserted script_keys weighs old key value own now new → TellsStep old (machine.Insert key value own now) Done new
-  insert_made weighs answers inserted = (machine.Done, inl (refl, stored_insert weighs old new key value own now answers inserted), refl)
+  insert_made weighs answers inserted = (machine.Done, inl (refl, stored_put weighs old new key value own now answers inserted.put), refl)
 
   -- one that memory refused is told so
   pub insert_refused : IsRefused old new → TellsStep old (machine.Insert key value own now) OutOfMemory new
@@ -109,11 +127,13 @@ module _ {W : Type 0} (weighs : W → ℕ → Stored (List ℕ) → ℕ → W �
   stored_request : ((key : ℕ) (value : Stored (List ℕ)) → AnswersStored weighs key value) → (request : Request (List ℕ))
       → AnswersRequest weighs request
   stored_request answers (Insert key text weight live) = answers key (stored_text text weight)
+  stored_request answers (Modify key text weight) = answers key (stored_text text weight)
   stored_request answers (Get key) = tt
   stored_request answers (ContainsKey key) = tt
   stored_request answers (Invalidate key) = tt
   stored_request answers (Remove key) = tt
   stored_request answers InvalidateAll = tt
+  stored_request answers RemoveExpired = tt
   stored_request answers (InvalidateIf text) = tt
   stored_request answers Sync = tt
   stored_request answers Iter = tt
@@ -140,11 +160,13 @@ module _ {W : Type 0} (weighs : W → ℕ → Stored (List ℕ) → ℕ → W �
     -- it does so on a request
     one_request : (request : Request (List ℕ)) → RequestFits false request → AnswersRequest weighs request
     one_request (Insert key text weight live) fits = one_stored key text weight fits.2
+    one_request (Modify key text weight) fits = one_stored key text weight fits.2
     one_request (Get key) fits = tt
     one_request (ContainsKey key) fits = tt
     one_request (Invalidate key) fits = tt
     one_request (Remove key) fits = tt
     one_request InvalidateAll fits = tt
+    one_request RemoveExpired fits = tt
     one_request (InvalidateIf text) fits = tt
     one_request Sync fits = tt
     one_request Iter fits = tt

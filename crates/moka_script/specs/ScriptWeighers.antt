@@ -2,7 +2,7 @@
 use Rattle.std.specs.Prelude.{ℕ, List}
 use Rattle.moka_grammar.specs.declared.line.Line.{Line}
 use Rattle.moka_grammar.specs.declared.line.Request.{Request}
-use Rattle.moka_grammar.specs.declared.line.Request.TheVariants.{Insert}
+use Rattle.moka_grammar.specs.declared.line.Request.TheVariants.{Insert, Modify}
 use Rattle.moka_script.specs.declared.stored.Stored.{Stored}
 use Rattle.moka_script.specs.Stored.{stored_text, stored_weighs}
 
@@ -14,6 +14,7 @@ module _ {W : Type 0} (weighs : W → ℕ → Stored (List ℕ) → ℕ → W �
   -- it does so for what the request stores
   abbrev pub AnswersRequest : Request (List ℕ) → Type 0
   AnswersRequest (Insert key text weight live) = AnswersStored key (stored_text text weight)
+  AnswersRequest (Modify key text weight) = AnswersStored key (stored_text text weight)
   AnswersRequest request = Unit {0}
 
   -- it does so for what the line stores

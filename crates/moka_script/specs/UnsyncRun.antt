@@ -8,13 +8,15 @@ use Rattle.moka_grammar.specs.declared.line.CacheOptions.{CacheOptions}
 use Rattle.moka_grammar.specs.declared.line.Line.{Line}
 use Rattle.moka_grammar.specs.declared.line.Request.{Request}
 use Rattle.moka_grammar.specs.declared.line.Span.{Span}
-use Rattle.moka_grammar.specs.declared.line.Request.TheVariants.{Insert, Get, ContainsKey, Invalidate, Remove, InvalidateAll, InvalidateIf}
-use Rattle.moka_grammar.specs.declared.line.Request.TheVariants.{Sync, Iter, EntryCount, WeightedSize, Policy as GetPolicy}
+use Rattle.moka_grammar.specs.declared.line.Request.TheVariants.{Insert, Modify, Get, ContainsKey, Invalidate, Remove, InvalidateAll}
+use Rattle.moka_grammar.specs.declared.line.Request.TheVariants.{InvalidateIf, RemoveExpired, Sync, Iter, EntryCount, WeightedSize, Policy as GetPolicy}
 use Rattle.moka_grammar.specs.Options.{span_nanos}
 use Rattle.moka_unsync.specs.declared.entry.Entry.{Entry}
 use Rattle.moka_unsync.specs.Shares.{adaptive, default_shares}
 use Rattle.moka_unsync.specs.declared.shares.Shares.{Shares}
 use Rattle.moka_unsync.specs.CacheState.{CacheState, new_cache}
+use Rattle.moka_unsync.specs.Insert.{Modifies}
+use Rattle.moka_unsync.specs.Invalidate.{expiries}
 use Rattle.moka_unsync.specs.Step as machine
 use Rattle.moka_script.specs.declared.keys.KeyState.{KeyState}
 use Rattle.moka_script.specs.declared.stored.Stored.{Stored}
@@ -61,14 +63,21 @@ module _ {W : Type 0} where
   TellsInsert old key stored (Some live) now reply new =
       TellsIfTimed old.settings.policy.time_to_live old (machine.Insert key stored (Some (span_nanos live)) now) reply new
 
+  -- what a modification to this is answered, and the cache after it
+  abbrev pub TellsModified : ScriptCache W → ℕ → Stored (List ℕ) → ℕ → Reply → ScriptCache W → Type 0
+  TellsModified old key stored now reply new =
+      (there : Bool) × Modifies script_keys stored_weighs (λ before after. after ≡ stored) there old key now new × (reply ≡ telling.Truth there)
+
   -- what a request at a moment is answered, and the cache after it; a cache for one thread is not asked to sync
   abbrev pub IsAnswered : ScriptCache W → ℕ → Request (List ℕ) → Reply → ScriptCache W → Type 0
   IsAnswered old now (Insert key text weight live) reply new = TellsInsert old key (stored_text text weight) live now reply new
+  IsAnswered old now (Modify key text weight) reply new = TellsModified old key (stored_text text weight) now reply new
   IsAnswered old now (Get key) reply new = TellsStep old (machine.Get key now) reply new
   IsAnswered old now (ContainsKey key) reply new = TellsStep old (machine.ContainsKey key now) reply new
   IsAnswered old now (Invalidate key) reply new = TellsStep old (machine.Invalidate key now) reply new
   IsAnswered old now (Remove key) reply new = TellsStep old (machine.Remove key now) reply new
   IsAnswered old now InvalidateAll reply new = TellsStep old machine.InvalidateAll reply new
+  IsAnswered old now RemoveExpired reply new = TellsStep old (machine.InvalidateEntriesIf (expiries script_keys old now)) reply new
   IsAnswered old now (InvalidateIf text) reply new =
       TellsStep old (machine.InvalidateEntriesIf (have_text text old.contents.entries)) reply new
   IsAnswered old now Sync reply new = ⊥

@@ -194,6 +194,10 @@ fn call_at<A: Allocator + Clone + Drop>(
         Request::InvalidateAll => Ok(Call::InvalidateAll { now }),
         Request::Sync => Ok(Call::Sync { now }),
         Request::EntryCount | Request::WeightedSize => Ok(Call::Counts),
-        Request::InvalidateIf { .. } | Request::Iter | Request::Policy => unreachable!(),
+        Request::Modify { .. }
+        | Request::RemoveExpired
+        | Request::InvalidateIf { .. }
+        | Request::Iter
+        | Request::Policy => unreachable!(),
     }
 }

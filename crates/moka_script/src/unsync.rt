@@ -1,12 +1,14 @@
 //! The replies to a script that builds a cache for one thread: its calls, made on that cache.
 ghost use Rattle.std.specs.Prelude.{◌≡◌, ◌++◌, ℕ, List, false, IfOk, OnOk, IsTrue, map};
 ghost use Rattle.std.specs.List.{AllByRecursion};
+ghost use Rattle.moka_unsync.specs.Insert.{Modifies};
 ghost use Rattle.moka_unsync.specs.Invalidate.{after_invalidate_if};
 ghost use Rattle.moka_grammar.specs.Lines.{allows, LineFits};
 ghost use Rattle.moka_script.specs.Reply.{Ready, Reply as Told, reply_line};
 ghost use Rattle.moka_script.specs.ReplyValue.{pairs_of, reply_of};
 ghost use Rattle.moka_script.specs.ScriptKeys.{script_keys};
 ghost use Rattle.moka_script.specs.ScriptWeighers.{AnswersLine, AnswersStored};
+ghost use Rattle.moka_script.specs.Stored.{stored_weighs};
 ghost use Rattle.moka_script.specs.UnsyncRun.{AreUnsyncReplies, AreUnsyncReplyLines, HasLimits, IsAnswered, TellsInsert, have_text, shares_of};
 
 use crate::keys::KeyState;
@@ -120,6 +122,15 @@ fn reply_to<A: Allocator + Clone + Drop, W: Weigh<u64, Stored<Text<A>>>>(
             let reply = insert(cache, key, stored, live, now);
             push_reply(text, reply)
         }
+        Request::Modify {
+            key,
+            text: value,
+            weight,
+        } => {
+            let stored = stored_text(value, weight);
+            let there = modify(cache, key, stored, now);
+            push_reply(text, ReplyValue::Truth(there))
+        }
         Request::Get { key } => push_reply(text, found(cache.get(&key, now))),
         Request::ContainsKey { key } => {
             push_reply(text, ReplyValue::Truth(cache.contains_key(&key, now)))
@@ -134,6 +145,10 @@ fn reply_to<A: Allocator + Clone + Drop, W: Weigh<u64, Stored<Text<A>>>>(
         },
         Request::InvalidateAll => {
             cache.invalidate_all();
+            push_reply(text, ReplyValue::Done)
+        }
+        Request::RemoveExpired => {
+            cache.remove_expired(now);
             push_reply(text, ReplyValue::Done)
         }
         Request::InvalidateIf { text: gone } => {
@@ -181,6 +196,21 @@ fn insert<A: Allocator + Clone + Drop, W: Weigh<u64, Stored<Text<A>>>>(
         Err(TimedInsertError::NoTimeToLive) => ReplyValue::NoTimeToLive,
         Err(TimedInsertError::OutOfMemory) => ReplyValue::OutOfMemory,
     }
+}
+
+/// Changes what is stored at the key, and returns `true`, or `false` if the key has no entry.
+fn modify<A: Allocator + Clone + Drop, W: Weigh<u64, Stored<Text<A>>>>(
+    cache: &mut ScriptCache<W, A>,
+    key: u64,
+    stored: Stored<Text<A>>,
+    now: Instant,
+) -> bool
+    requires ready { W.ready cache.old.weigher }
+    requires weighs { AnswersStored W.weighs key stored }
+    ensures step { Modifies script_keys stored_weighs (λ _ new. new ≡ stored) result cache.old key now cache.new }
+    ensures ready { W.ready cache.new.weigher }
+{
+    cache.modify(&key, now, |value: &mut Stored<Text<A>>| *value = stored)
 }
 
 /// Returns the pairs of an iterator, each a key and its text.

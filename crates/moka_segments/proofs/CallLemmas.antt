@@ -40,7 +40,7 @@ module _ {K V S W : Type 0} (keys : Keys K S) (weighs : W → K → V → ℕ �
   pub insert_step : (before after : CacheState K V S W) (key : K) (value : V) (own : Option ℕ) (now : ℕ) (r : Result (Unit {0}) InsertError)
       → OnOk r (IsInserted keys weighs before key value own now after) → OnErr r (IsRefused before after)
       → IsStep keys weighs before (Insert key value own now) (answer_of r) after
-  insert_step before after key value own now (Ok done) made refused = inl (refl, made)
+  insert_step before after key value own now (Ok done) made refused = inl (refl, made.put)
   insert_step before after key value own now (Err error) made refused = inr (refl, refused)
 
   led_settings : (start cache : CacheState K V S W) (past : List (Transition K V S W)) → Leads keys weighs start past cache → cache.settings ≡ start.settings

@@ -1,5 +1,5 @@
 -- What a contract sees of the store of a cache's entries, and of each change of it.
-use Rattle.std.specs.Prelude.{◌≡◌, ◌≤◌, ℕ, Bool, true, false, filter, nat_eq, List, length, ◌∷◌, All, Some, IsSome, option_map}
+use Rattle.std.specs.Prelude.{◌≡◌, ◌≤◌, ◌<◌, ◌^◌, ℕ, Bool, true, false, filter, nat_eq, List, length, ◌∷◌, All, Some, IsSome, option_map}
 use Rattle.std.specs.List.{IsDistinct}
 use Rattle.std.specs.Map.{lookup, remove_entry, values_of}
 use Rattle.moka_list.specs.IdList.{is_listed}
@@ -11,6 +11,7 @@ use Rattle.moka_unsync_model.specs.Contents.{without}
 use Rattle.moka_unsync_model.specs.Contents.{write_of, writes_without}
 use Rattle.moka_unsync_model.specs.Insert.{after_arrival, after_update}
 use Rattle.moka_unsync_model.specs.Lookup.{after_using, used_part}
+use Rattle.moka_store.specs.declared.store.modify.Moments.{Moments}
 
 -- the entries in three parts, probation, protected and the window, each in order of use and under the ids of their nodes; the writes in their order, if
 -- they are kept; how much protected may weigh; and how many entries fit with no allocation
@@ -122,6 +123,23 @@ module _ {K V : Type 0} where
       pub stood : lookup (nat_eq id) old.nodes ≡ Some entry
       pub contents : contents_of new ≡ after_update eq old.keeps_writes old.protected_limit entry update (contents_of old)
       pub kept : Continues old new
+
+    -- what it is once the entry's value was changed, weighed again, and given these moments
+    pub record Modifies (changes : V → V → Type 0) (weighs : V → ℕ → Type 0) (old : Store K V) (id : ℕ) (times : Moments) (new : Store K V) : Type 0 where
+      pub entry : Entry K V
+      pub stood : lookup (nat_eq id) old.nodes ≡ Some entry
+      pub value : V
+      pub weight : ℕ
+      pub changed : changes entry.value value
+      pub weighed : weighs value weight
+      pub small : weight < 2 ^ 32
+      pub step : Updates old id (record entry {
+        value = value;
+        weight = weight;
+        accessed = times.accessed;
+        deadline = times.deadline;
+        outlasts = times.outlasts;
+      }) new
 
     -- the entries of the other nodes are those of other keys
     abbrev pub IsAlone : Store K V → ℕ → Entry K V → Type 0

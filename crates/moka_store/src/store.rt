@@ -14,10 +14,13 @@ ghost use Rattle.moka_store.specs.Store.{AreCandidates, Continues, Enters, HasHa
 ghost use Rattle.moka_store.specs.Store.{StaysInProbation, Updates, Uses};
 ghost use Rattle.moka_store.specs.Store.{contents_of, entries_of, is_of, those_of};
 
+mod modify;
+
 use crate::parts::{
     Marks, Weights, add_write, attach, balance, is_of, may_be_protected, remove_write, rewrite,
     used_part, write_again,
 };
+pub use modify::Moments;
 use moka_common::error::OutOfMemory;
 use moka_common::lookup::Lookup;
 use moka_common::policy::Policy;

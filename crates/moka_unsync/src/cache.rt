@@ -18,6 +18,7 @@ mod follow;
 mod get_or_insert;
 mod insert;
 mod iter;
+mod modify;
 mod parts;
 
 use crate::builder::CacheBuilder;
@@ -26,7 +27,7 @@ use crate::memory::{Memory, make_tables};
 use crate::notifying_cache::NotifyingCache;
 use crate::part_limits::{protected_room, windowed_limits};
 use crate::walk::next_unexpired;
-pub use iter::Iter;
+pub use iter::{Entries, Iter};
 use moka_common::error::{BuildError, OutOfMemory};
 use moka_common::frequency_sketch::FrequencySketch;
 use moka_common::frequency_sketch::enabling::Load;
@@ -76,13 +77,12 @@ use std::marker::Model;
 /// Which keys stay depends on how large the window is. `adaptive()` lets the cache choose: the window grows while keys come back that were rejected, and
 /// shrinks while keys come back that the main part gave up for others. It is the first choice unless replies must be those of a fixed window. A hit costs what
 /// it costs with `protected_share(80)`, and two tables take half a byte an entry. In a small cache with a weigher it may find fewer, 9 of 100 on one trace,
-/// since the window's limit moves by whole entries. Two settings of the builder fix the shares instead, or set where an adaptive cache begins:
+/// since the window's limit moves by whole entries. Two settings of the builder fix the shares instead, or set where an adaptive cache begins.
+/// `bench/run hits` compares them on traces:
 ///
 /// - `protected_share(80)` makes the main part a segmented LRU, as in Caffeine: an entry that is used there again is protected, and leaves after those that
 ///   aren't. It finds more keys if some stay popular, also between scans.
 /// - `window_share(20)` makes the window larger. It finds more keys if most are asked for again soon after they came, and fewer if some stay popular.
-///
-/// `bench/run hits` compares them on traces.
 ///
 /// # Expiry
 ///
@@ -108,7 +108,7 @@ use std::marker::Model;
 /// Moments are handed in. Building and inserting return a `Result`: refused memory, a duration of more than 1000 years and a share above 100 are named
 /// refusals in place of an abort or a panic. Counts and weights follow every removal. Keys are looked up by `&K` or by a probe. `iter` and the predicate of
 /// `invalidate_entries_if` go in order of use, the window last, `iter` leaves expired entries out, and `Debug` shows every stored one. New entries enter a
-/// window, whose share and that of a protected segment can be set. Calls are added, such as `remove` and those with a time to live.
+/// window, whose share and that of a protected segment can be set. Calls are added, such as `remove`, `modify` and those with a time to live.
 pub struct Cache<
     K: Eq + Hash + Drop,
     V: Drop,

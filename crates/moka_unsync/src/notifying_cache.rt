@@ -2,10 +2,11 @@
 ghost use Rattle.std.specs.Prelude.{◌≡◌, ◌⊎◌, ⊤, Bool, List, [], None, Some, Ok, IfErr, IfOk, IsSome, OnErr, OnOk, option_copied, true};
 ghost use Rattle.std.specs.Duration.{as_nanos};
 ghost use Rattle.std.specs.Borrow.{sem};
+ghost use Rattle.std.specs.Fn.{FnOnceReturnsAtMut, FnOnceTakesAtMut};
 ghost use Rattle.moka_common.specs.Keys.{hash_by, keys_by};
 ghost use Rattle.moka_unsync_model.specs.Cleanup.{is_expired};
 ghost use Rattle.moka_unsync_model.specs.GetOrInsert.{IsGotOrInserted, IsRefusedBehind};
-ghost use Rattle.moka_unsync_model.specs.Insert.{IsInserted, IsRefused};
+ghost use Rattle.moka_unsync_model.specs.Insert.{IsInserted, IsRefused, Modifies};
 ghost use Rattle.moka_unsync_model.specs.Invalidate.{AnswersInTurn, after_invalidate, after_invalidate_all, after_invalidate_if};
 ghost use Rattle.moka_unsync_model.specs.Invalidate.{after_invalidate_where, after_remove_expired};
 ghost use Rattle.moka_unsync_model.specs.Lookup.{after_get, after_get_where, after_look, found_by_get, found_where, is_contained, is_contained_where};
@@ -254,6 +255,20 @@ impl<
     W: Weigh<K, V> + Drop,
     A: Allocator + Clone + Drop,
 > NotifyingCache<K, V, L, S, W, A> {
+    /// Changes the value of the key in place, as `Cache::modify` does. The listener doesn't get it, since it stays.
+    pub fn modify<F: FnOnce(&mut V)>(&mut self, key: &K, now: Instant, change: F) -> bool
+        requires ready { W.ready self.old.cache.weigher }
+        requires change { (value : V) → FnOnceTakesAtMut F.FnOnce change value }
+        ensures step { Modifies (keys_by K.Hash S.BuildHasher S.Hasher.Hasher) W.weighs
+            (λ old new. FnOnceReturnsAtMut F.FnOnce change old tt new) result self.old.cache key.now now self.new.cache }
+        ensures ready { W.ready self.new.cache.weigher }
+        ensures told { TellsLook L.hears (keys_by K.Hash S.BuildHasher S.Hasher.Hasher) self.old.cache now self.old.listener self.new.listener }
+    {
+        let hash = self.cache.hash_of(key);
+        self.cache
+            .modify_notifying(key, hash, now, change, &mut self.listener)
+    }
+
     /// Puts the value at the key, as `Cache::insert` does. If it replaces a value, the listener gets the old value with the new key.
     pub fn insert(&mut self, key: K, value: V, now: Instant) -> Result<(), InsertError>
         requires ready { W.ready self.old.cache.weigher }

@@ -24,7 +24,7 @@ use Rattle.moka_unsync_model.specs.Window.{candidates, given_up, victims_of}
 use Rattle.moka_unsync_model.specs.declared.entry.Part.TheVariants.{Window}
 use Rattle.moka_unsync_model.proofs.JudgementLemmas.{judgements-demand}
 use Rattle.moka_unsync_model.proofs.CauseLemmas.{windowed-is}
-use Rattle.moka_unsync_model.proofs.MapLemmas.{given-standing, given_of, terms_of}
+use Rattle.moka_unsync_model.proofs.MapLemmas.{given-standing, given_of}
 use Rattle.moka_unsync_model.proofs.OrderLemmas.{terms-runs}
 
 -- ---- how far it adapts

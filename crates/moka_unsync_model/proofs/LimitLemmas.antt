@@ -20,7 +20,7 @@ use Rattle.moka_unsync_model.specs.CacheState.{CacheState, new_cache, room_of, w
 use Rattle.moka_common.specs.Settings.{keeps_writes}
 use Rattle.moka_unsync_model.specs.Cleanup.{after_expiry, after_idle, after_live_expiry, after_trim, after_cleanup}
 use Rattle.moka_unsync_model.specs.Cleanup.{is_past_ttl, least_recent, is_expired, unexpired}
-use Rattle.moka_unsync_model.specs.Insert.{Refused, IsInserted, after_admission, after_asking, after_entering, after_entry, after_new, after_put, after_turn}
+use Rattle.moka_unsync_model.specs.Insert.{Refused, Puts, after_admission, after_asking, after_entering, after_entry, after_new, after_put, after_turn}
 use Rattle.moka_unsync_model.specs.Insert.{after_verdict}
 use Rattle.moka_unsync_model.specs.Insert.{new_entry}
 use Rattle.moka_unsync_model.specs.Window.{after_candidacy, after_candidates, after_sharing, candidates, excess, victims_of}
@@ -452,7 +452,7 @@ module _ {K V S W : Type 0} (keys : Keys K S) (laws : IsEquivalence keys.eq) (we
   bounded_from limit old kept new less (inr h) = inr h
 
   bounded_insert : (old new : CacheState K V S W) (limit : ℕ) (key : K) (value : V) (own : Option ℕ) (now : ℕ) → HasLimit limit old
-      → IsInserted keys weighs old key value own now new
+      → Puts keys weighs old key value own now new
       → IsBounded keys.eq laws limit old.contents new.contents ⊎ IsUpdate keys weighs old (Insert key value own now)
   bounded_insert old new limit key value own now has done =
       let kept = after_cleanup keys.eq old.settings.policy now old.contents in

@@ -9,7 +9,7 @@ use Rattle.moka_unsync_model.specs.declared.entry.Entry.{Entry}
 use Rattle.moka_unsync_model.specs.Contents.{Contents, after_leaving, entry_at, entry_keys, total_weight}
 use Rattle.moka_unsync_model.specs.CacheState.{CacheState, new_cache, room_of, windowed}
 use Rattle.moka_common.specs.Settings.{Settings, keeps_writes, live_nanos}
-use Rattle.moka_unsync_model.specs.Lookup.{after_use, after_look, found_by_get, unexpired_at, after_using}
+use Rattle.moka_unsync_model.specs.Lookup.{after_use, after_look, unexpired_at, after_using}
 use Rattle.moka_unsync_model.specs.Cleanup.{is_expired, unexpired}
 use Rattle.moka_unsync_model.specs.Insert.{Refused, after_entering, after_new, after_put, after_turn, after_verdict, new_entry}
 use Rattle.moka_unsync_model.specs.Window.{victims_of}

@@ -6,20 +6,19 @@ use Rattle.std.specs.Cmp.{IsEquivalence}
 use Rattle.std.proofs.lemmas.Bool.{cases_Bool, cond-false, cond-true}
 use Rattle.std.proofs.lemmas.List.Elements.{All-filter, All-from_recursion, All-head, All-push, All-tail}
 use Rattle.moka_common.specs.Keys.{Keys}
-use Rattle.moka_common.specs.Settings.{Settings, keeps_writes}
+use Rattle.moka_common.specs.Settings.{keeps_writes}
 use Rattle.moka_common.specs.Sketch.{Table}
 use Rattle.moka_unsync_model.specs.declared.entry.Entry.{Entry}
 use Rattle.moka_unsync_model.specs.declared.entry.Part.TheVariants.{Probation, Window}
 use Rattle.moka_unsync_model.specs.declared.shares.PartLimits.{PartLimits}
-use Rattle.moka_unsync_model.specs.declared.shares.Shares.{Shares}
 use Rattle.moka_unsync_model.specs.CacheState.{CacheState, new_cache, room_of, windowed}
 use Rattle.moka_unsync_model.specs.Cleanup.{least_recent}
 use Rattle.moka_unsync_model.specs.Contents.{Contents, after_leaving, entries_without, entry_at, entry_keys, is_window, main_of, protected_of, total_weight}
 use Rattle.moka_unsync_model.specs.Contents.{window_of, with_latest}
 use Rattle.moka_unsync_model.specs.Insert.{Refused, after_entering, after_entry, after_new, after_put, after_turn, gained_by, new_entry}
-use Rattle.moka_unsync_model.specs.Laws.{InsertsDoLittle, IsLittleWork, MovesBy, Remains}
+use Rattle.moka_unsync_model.specs.Laws.{InsertsDoLittle, MovesBy, Remains}
 use Rattle.moka_unsync_model.specs.Lookup.{after_look, after_miss, after_use, after_using, unexpired_at, used_part}
-use Rattle.moka_unsync_model.specs.Memory.{Memory, at_most, demand_after, shares_at}
+use Rattle.moka_unsync_model.specs.Memory.{Memory, at_most}
 use Rattle.moka_unsync_model.specs.Shares.{hundredths, limits_of, main_limit, protected_room, windowed_limits}
 use Rattle.moka_unsync_model.specs.Step.{Answer, IsStep, Request, Runs, Get, Peek, ContainsKey, Miss, Insert, Invalidate, Remove, InvalidateAll}
 use Rattle.moka_unsync_model.specs.Step.{InvalidateEntriesIf, Iterate, EntryCount, WeightedSize}
@@ -32,11 +31,11 @@ use Rattle.moka_unsync_model.proofs.EnteringLemmas.{least_recent-cons, passed-pu
 use Rattle.moka_unsync_model.proofs.HistoryLemmas.{something}
 use Rattle.moka_unsync_model.proofs.KeyLemmas.{StandOnce, contents-standing, none_stand, once-candidacy, once-push, once-remains, once-step}
 use Rattle.moka_unsync_model.proofs.LimitLemmas.{AllOne, IsWithin, found_there, ones_found, total-cons, total-filter, total-found, total-push, within_step}
-use Rattle.moka_unsync_model.proofs.MapLemmas.{given-standing, given_of, terms-put, terms_of}
+use Rattle.moka_unsync_model.proofs.MapLemmas.{given_of, terms-put, terms_of}
 use Rattle.moka_unsync_model.proofs.OrderLemmas.{same-windowed, terms-runs}
 use Rattle.moka_unsync_model.proofs.PartLemmas.{window-demoted, window-used}
 use Rattle.moka_unsync_model.proofs.RemainLemmas.{remains-cleanup, remains-leaving, remains-none}
-use Rattle.moka_unsync_model.proofs.ShareLemmas.{IsShared, protected-entering, both-tests, more-times, protected-remains, shared-new}
+use Rattle.moka_unsync_model.proofs.ShareLemmas.{protected-entering, both-tests, more-times, protected-remains, shared-new}
 use Rattle.moka_unsync_model.proofs.SharingLemmas.{stays_of, turned}
 use Rattle.moka_unsync_model.proofs.StandLemmas.{AreCandidates, StandsIn, are-chosen, are-left, stands-left}
 use Rattle.moka_unsync_model.proofs.WindowLemmas.{latest-filtered, total-latest, total-split, window-latest}

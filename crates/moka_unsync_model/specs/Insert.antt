@@ -12,7 +12,7 @@ use Rattle.moka_unsync_model.specs.Contents.{Contents, Write, is_window, total_w
 use Rattle.moka_unsync_model.specs.CacheState.{CacheState, room_of, windowed}
 use Rattle.moka_common.specs.Settings.{Settings, keeps_writes, live_nanos}
 use Rattle.moka_unsync_model.specs.declared.shares.PartLimits.{PartLimits}
-use Rattle.moka_unsync_model.specs.Lookup.{after_using}
+use Rattle.moka_unsync_model.specs.Lookup.{after_look, after_using, is_contained, unexpired_at}
 use Rattle.moka_unsync_model.specs.Cleanup.{after_cleanup}
 use Rattle.moka_unsync_model.specs.Memory.{Memory, after_coming, after_remembering, demand_after, shares_at}
 use Rattle.moka_unsync_model.specs.Shares.{limits_of}
@@ -156,17 +156,36 @@ module _ {K V S W : Type 0} where
     pub full : old.capacity ≤ length old.contents.entries
     pub same : new ≡ record old { capacity = new.capacity }
 
-module _ {K V S W : Type 0} (keys : Keys K S) where
-  -- there was room or it was made, the weigher was asked once, and the entry is put with its answer, whichever tables memory refuses
-  pub record IsInserted (weighs : W → K → V → ℕ → W → Type 0) (old : CacheState K V S W) (key : K) (value : V) (own : Option ℕ) (now : ℕ)
-      (new : CacheState K V S W) : Type 0 where
+module _ {K V S W : Type 0} (keys : Keys K S) (weighs : W → K → V → ℕ → W → Type 0) where
+  -- the weigher was asked once, and the entry is put with its answer, whichever tables memory refuses; a new one had room, or it was made
+  pub record Puts (old : CacheState K V S W) (key : K) (value : V) (own : Option ℕ) (now : ℕ) (new : CacheState K V S W) : Type 0 where
     pub weight : ℕ
     pub weigher : W
     pub refused : Refused
     pub capacity : ℕ
-    pub grown : length old.contents.entries < capacity
+    pub room : entry_at keys.eq key (after_cleanup keys.eq old.settings.policy now old.contents).entries ≡ None
+        → length old.contents.entries < capacity
     pub kept : length old.contents.entries < old.capacity → capacity ≡ old.capacity
     pub weighed : weighs old.weigher key value weight weigher
     pub small : weight < 2 ^ 32
     pub step : new ≡ after_insert keys.eq (record old { weigher = weigher; capacity = capacity })
         (new_entry keys old.settings key value weight own now) now refused
+
+  -- and so it is if the key has an entry
+  pub record IsInserted (old : CacheState K V S W) (key : K) (value : V) (own : Option ℕ) (now : ℕ) (new : CacheState K V S W) : Type 0 where
+    pub put : Puts old key value own now new
+    pub grown : length old.contents.entries < put.capacity
+
+  -- what a change of an entry's value leaves: that of a key's unexpired entry is put there as it was changed, in room that it has
+  pub record IsModified (changes : V → V → Type 0) (old : CacheState K V S W) (key : K) (now : ℕ) (new : CacheState K V S W) : Type 0 where
+    pub entry : Entry K V
+    pub value : V
+    pub found : unexpired_at keys.eq old.settings.policy now key (after_cleanup keys.eq old.settings.policy now old.contents) ≡ Some entry
+    pub changed : changes entry.value value
+    pub put : Puts old key value None now new
+    pub same : put.capacity ≡ old.capacity
+
+  -- where the key has none, the call only looked
+  abbrev pub Modifies : (V → V → Type 0) → Bool → CacheState K V S W → K → ℕ → CacheState K V S W → Type 0
+  Modifies changes true old key now new = IsModified changes old key now new
+  Modifies changes false old key now new = (is_contained keys old key now ≡ false) × (new ≡ after_look keys old now)

@@ -9,7 +9,7 @@ use Rattle.moka_unsync_model.specs.declared.entry.Entry.{Entry}
 use Rattle.moka_unsync_model.specs.declared.entry.Part.TheVariants.{Probation, Protected, Window}
 use Rattle.moka_unsync_model.specs.CacheState.{CacheState, new_cache, room_of, windowed}
 use Rattle.moka_unsync_model.specs.Cleanup.{is_expired, least_recent}
-use Rattle.moka_unsync_model.specs.Insert.{IsInserted, after_entering, after_entry, after_turn, gained_by}
+use Rattle.moka_unsync_model.specs.Insert.{IsModified, Puts, Modifies, after_entering, after_entry, after_turn, gained_by}
 use Rattle.moka_unsync_model.specs.Window.{after_candidate, candidates, given_up, victims_of}
 use Rattle.moka_common.specs.Sketch.{Table}
 use Rattle.moka_common.specs.Settings.{Settings, keeps_writes}
@@ -18,7 +18,7 @@ use Rattle.moka_unsync_model.specs.Lookup.{after_get, after_get_where, after_loo
 use Rattle.moka_unsync_model.specs.Lookup.{is_contained_where, peeked_where, unexpired_at}
 use Rattle.moka_unsync_model.specs.GetOrInsert.{IsGot, IsPutBehind, IsRefusedBehind}
 use Rattle.moka_unsync_model.specs.Step.{Answer, IsStep, Done, Found, OutOfMemory, Request, Runs, Get, Peek, ContainsKey, Miss, Insert, Invalidate, Remove}
-use Rattle.moka_unsync_model.specs.Step.{InvalidateAll, InvalidateEntriesIf, Iterate, EntryCount, WeightedSize}
+use Rattle.moka_unsync_model.specs.Step.{InvalidateAll, InvalidateEntriesIf, Iterate, EntryCount, Truth, WeightedSize}
 use Rattle.moka_unsync_model.specs.declared.shares.Shares.{Shares}
 use Rattle.moka_unsync_model.specs.declared.shares.PartLimits.{PartLimits}
 use Rattle.moka_unsync_model.specs.Shares.{hundredths, limits_of, main_limit, protected_room, windowed_limits}
@@ -118,7 +118,7 @@ module _ {K V S W : Type 0} (keys : Keys K S) (weighs : W → K → V → ℕ �
     pub own : Option ℕ
     pub now : ℕ
     pub is : request ≡ Insert key value own now
-    pub inserted : IsInserted keys weighs old key value own now new
+    pub inserted : Puts keys weighs old key value own now new
     pub moves : MovesBy limit inserted.weight old.shares new.shares
 
   -- from a new cache with a limit, no other call moves it
@@ -321,6 +321,13 @@ module _ {K V S W : Type 0} (keys : Keys K S) (weighs : W → K → V → ℕ �
         → Runs keys weighs old (Get key now ∷ Insert key value None now ∷ []) (Found None ∷ Done ∷ []) new
     pub refused : (old new : CacheState K V S W) (key : K) (value : V) (now : ℕ) → IsRefusedBehind keys old key now new
         → Runs keys weighs old (Get key now ∷ Insert key value None now ∷ []) (Found None ∷ OutOfMemory ∷ []) new
+
+  -- a modification is an insert of what was left there, or it only looks
+  pub record ModificationsAreCalls (changes : V → V → Type 0) : Type 0 where
+    pub modified : (old new : CacheState K V S W) (key : K) (now : ℕ) (done : IsModified keys weighs changes old key now new)
+        → IsStep keys weighs old (Insert key done.value None now) Done new
+    pub looked : (old new : CacheState K V S W) (key : K) (now : ℕ) → Modifies keys weighs changes false old key now new
+        → IsStep keys weighs old (ContainsKey key now) (Truth false) new
 
 -- ---- probes
 

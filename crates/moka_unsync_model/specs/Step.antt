@@ -4,7 +4,7 @@ use Rattle.moka_common.specs.Keys.{Keys}
 use Rattle.moka_unsync_model.specs.Contents.{weighted_size}
 use Rattle.moka_unsync_model.specs.CacheState.{CacheState}
 use Rattle.moka_unsync_model.specs.Lookup.{after_get, after_look, after_miss, found_by_get, found_by_peek, is_contained}
-use Rattle.moka_unsync_model.specs.Insert.{IsInserted, IsRefused}
+use Rattle.moka_unsync_model.specs.Insert.{Puts, IsRefused}
 use Rattle.moka_unsync_model.specs.Invalidate.{after_invalidate, after_invalidate_all, after_invalidate_if}
 use Rattle.moka_unsync_model.specs.Iterate.{pairs_at}
 
@@ -41,7 +41,7 @@ module _ {K V S W : Type 0} (keys : Keys K S) (weighs : W → K → V → ℕ �
   IsStep old (ContainsKey key now) answer new = (answer ≡ Truth (is_contained keys old key now)) × (new ≡ after_look keys old now)
   IsStep old (Miss hash now) answer new = (answer ≡ Found None) × (new ≡ after_miss keys old hash now)
   IsStep old (Insert key value own now) answer new =
-      ((answer ≡ Done) × IsInserted keys weighs old key value own now new) ⊎ ((answer ≡ OutOfMemory) × IsRefused old new)
+      ((answer ≡ Done) × Puts keys weighs old key value own now new) ⊎ ((answer ≡ OutOfMemory) × IsRefused old new)
   IsStep old (Invalidate key now) answer new = (answer ≡ Done) × (new ≡ after_invalidate keys old key now)
   IsStep old (Remove key now) answer new = (answer ≡ Found (found_by_get keys old key now)) × (new ≡ after_invalidate keys old key now)
   IsStep old InvalidateAll answer new = (answer ≡ Done) × (new ≡ after_invalidate_all old)

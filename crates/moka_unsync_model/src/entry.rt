@@ -11,7 +11,7 @@ pub enum Part {
     Window,
 }
 
-/// A key with its value and what the cache keeps of them. Contracts name it; no call of a cache takes or gives one.
+/// A key with its value and what the cache keeps of them: `Cache::entries` lends it, and contracts name it.
 #[derive(Drop)]
 pub struct Entry<K: Drop, V: Drop> {
     pub key: K,

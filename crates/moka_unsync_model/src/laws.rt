@@ -4,6 +4,8 @@ ghost use Rattle.std.specs.Prelude.{◌≡◌, ◌/◌, ℕ};
 ghost use Rattle.moka_unsync_model.specs.declared.constants.TheConstants.{EVICTION_BATCH_SIZE};
 ghost use Rattle.moka_unsync_model.specs.Shares.{default_shares, limits_of};
 ghost use Rattle.moka_unsync_model.specs.Laws.{EntriesAreOwn, GetsOrInsertsAreRuns, HitsAreProtected, InvalidationsKeepCounts, KeysStandOnce};
+ghost use Rattle.moka_unsync_model.specs.Laws.{ModificationsAreCalls};
+ghost use Rattle.std.specs.Fn.{FnOnceReturnsAtMut};
 ghost use Rattle.moka_unsync_model.specs.Laws.{FixedSharesStay, InsertsDoLittle, LooksChangeNothing, TurnsAreSmall, WindowStaysWithinBounds};
 ghost use Rattle.moka_unsync_model.specs.Laws.{NeverRefuses, OnlyUpdatesOutgrowLimit, PartsStandInOrder, ProbesActAsKeys, ProtectedGivesWayLast};
 ghost use Rattle.moka_unsync_model.specs.Laws.{ProtectedStaysEmpty, ProtectedStaysWithinShare, StaysWithinLimit, WindowStandsBehind, WindowStaysEmpty};
@@ -132,6 +134,11 @@ pub fn invalidations_keep_counts<K: Eq + Hash, V, S: BuildHasher, W: Weigh<K, V>
 /// A removal of the expired entries is an invalidation by a predicate that chooses them, so each law of runs speaks of it. No entry is expired after it.
 pub fn removals_of_expired_are_invalidations<K: Eq + Hash, V, S: BuildHasher, W: Weigh<K, V>>()
     ensures { RemovalsOfExpiredAreInvalidations (keys_by K.Hash S.BuildHasher S.Hasher.Hasher) W.weighs }
+{}
+
+/// A modification is an insert of what the function leaves in the value, or a look at a key that isn't there. So each law of runs speaks of it.
+pub fn modifications_are_calls<K: Eq + Hash, V, S: BuildHasher, W: Weigh<K, V>, F: FnOnce(&mut V)>()
+    ensures { (f : F) → ModificationsAreCalls (keys_by K.Hash S.BuildHasher S.Hasher.Hasher) W.weighs (λ old new. FnOnceReturnsAtMut F.FnOnce f old tt new) }
 {}
 
 /// Without limit, durations and refusal a call answers as a plain map of the cache's pairs would, and leaves what that would leave.

@@ -1,4 +1,4 @@
-// Inserts of the cache for one thread: how often the weigher is asked, when the sketch's table is asked for, and what is taken without memory.
+// Inserts and modifications of the cache for one thread: how often the weigher is asked, when the sketch's table is asked for, and what takes no memory.
 ghost use Rattle.std.specs.Prelude.{⊤};
 
 use moka_common::hash::FixedState;
@@ -41,16 +41,21 @@ impl Weigh<u64, u64> for Counting<'_> {
 #[derive(Clone, Copy)]
 enum Call {
     Insert(u64),
+    Modify(u64),
     Get(u64),
 }
 
 /// A cache by such a weigher.
 type Counted<'a, 'h> = Cache<u64, u64, FixedState, Counting<'a>, &'h Heap>;
 
-/// Makes a call. How many inserts are taken.
+/// Makes a call. How many inserts are taken, and modifications made.
 fn make(cache: &mut Counted, call: Call) -> u64 {
     match call {
         Call::Insert(key) => u64::from(cache.insert(key, 1, start()).is_ok()),
+        Call::Modify(key) => {
+            let doubled = |value: &mut u64| *value = value.wrapping_mul(2);
+            u64::from(cache.modify(&key, start(), doubled))
+        }
         Call::Get(key) => {
             let _ = cache.get(&key, start());
             0
@@ -109,6 +114,55 @@ fn insert_all(heap: &Heap) -> Result<(), &'static str> {
 fn the_weigher_is_asked_once_for_each_insert_that_is_taken(rt: HostRuntime) -> Result<(), Fail> {
     let plays = for_each_refusal(rt.alloc(), rt.alloc(), BOUND, |heap| insert_all(heap))?;
     assert_eq!(rt; plays, 16);
+    Ok(())
+}
+
+/// Two keys that are modified, and one that isn't there.
+const MODIFICATIONS: [Call; 5] = [
+    Call::Insert(0),
+    Call::Insert(1),
+    Call::Modify(0),
+    Call::Modify(9),
+    Call::Modify(0),
+];
+
+fn modify_all(heap: &Heap) -> Result<(), &'static str> {
+    match seen(heap, 2, 2, &MODIFICATIONS) {
+        None => Err("a build takes memory"),
+        Some((4, 4, 10)) => Ok(()),
+        Some(_) => Err("what is modified, weighed and left in order of use"),
+    }
+}
+
+#[test]
+fn a_modification_is_weighed_once_and_is_a_use(rt: HostRuntime) -> Result<(), Fail> {
+    let heap = RefusingHeap::new(rt.alloc(), rt.alloc(), Refusals::Never)?;
+    assert_eq!(rt; modify_all(&heap), Ok(()));
+    Ok(())
+}
+
+/// Returns how often a full cache asks for memory as its values are modified.
+fn requests_of_modifications(heap: &Heap) -> Option<u64> {
+    let mut cache: Cache<u64, u64, FixedState, UnitWeight, _> = CacheBuilder::new(heap, 10)
+        .build()
+        .ok()?;
+    for key in 0..10u64 {
+        cache.insert(key, 1, start()).ok()?;
+    }
+    let full = heap.asked();
+    for key in 0..11u64 {
+        let modified = cache.modify(&key, start(), |value: &mut u64| *value = 2);
+        if modified != (key < 10) {
+            return None;
+        }
+    }
+    heap.asked().checked_sub(full)
+}
+
+#[test]
+fn a_modification_takes_no_memory(rt: HostRuntime) -> Result<(), Fail> {
+    let heap = RefusingHeap::new(rt.alloc(), rt.alloc(), Refusals::Never)?;
+    assert_eq!(rt; requests_of_modifications(&heap), Some(0));
     Ok(())
 }
 

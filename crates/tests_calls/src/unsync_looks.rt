@@ -1,8 +1,9 @@
-// Calls of the cache for one thread that no script makes: a peek, a get or insert, and a step of a walk.
+// Calls of the cache for one thread that no script makes: a peek, a get or insert, a step of a walk, a look at all entries, and a modification with a listener.
 use moka_common::error::InsertError;
 use moka_common::time::Instant;
 use moka_unsync::cache::Cache;
 use moka_unsync::error::TryInsertError;
+use moka_unsync_model::listener::Statistics;
 use std::alloc::Global;
 use std::cell::Cell;
 use std::test::Fail;
@@ -204,5 +205,51 @@ fn a_try_get_or_insert_is_made_or_refused(rt: HostRuntime) -> Result<(), Fail> {
 fn a_get_or_insert_is_made_or_refused(rt: HostRuntime) -> Result<(), Fail> {
     let plays = for_each_refusal(rt.alloc(), rt.alloc(), BOUND, |heap| play(heap))?;
     assert!(rt; plays > 0);
+    Ok(())
+}
+
+// They come in order of use, the expired ones too, each with its last use and its deadline.
+#[test]
+fn entries_have_what_the_cache_keeps(rt: HostRuntime) -> Result<(), Fail> {
+    let mut cache = squares(rt.alloc())?;
+    let _ = cache.get(&1, at(5));
+    let wanted = [
+        (0u64, 0u64, at(0), at(10)),
+        (2, 4, at(2), at(12)),
+        (3, 9, at(3), at(13)),
+        (1, 1, at(5), at(11)),
+    ];
+    assert_eq!(rt; cache.entries().count(), wanted.len());
+    for (entry, kept) in cache.entries().zip(wanted) {
+        assert_eq!(rt;
+            (entry.key, entry.value, entry.accessed, entry.deadline),
+            kept
+        );
+        assert!(rt; entry.weight == 1 && !entry.outlasts);
+    }
+    Ok(())
+}
+
+// Key 1 is written at 4. At 10 key 0 is expired, and at 13 keys 2 and 3 are.
+#[test]
+fn a_listener_gets_no_modified_value(rt: HostRuntime) -> Result<(), Fail> {
+    let mut cache = squares(rt.alloc())?.with_listener(Statistics::default());
+    let modified = [
+        cache.modify(&1, at(4), |value: &mut u64| *value = 7),
+        cache.modify(&9, at(4), |value: &mut u64| *value = 7),
+        cache.modify(&0, at(10), |value: &mut u64| *value = 7),
+    ];
+    assert_eq!(rt; modified, [true, false, false]);
+    assert_eq!(rt; cache.get(&1, at(13)).copied(), Some(7));
+    let counts = cache.listener();
+    assert_eq!(rt;
+        (
+            counts.expired,
+            counts.replaced,
+            counts.explicit,
+            counts.size
+        ),
+        (3, 0, 0, 0)
+    );
     Ok(())
 }

@@ -40,7 +40,7 @@ const REQUEST: &str = "the mode has no such call";
 const WORDS: &str = "the call takes other words, or a number or a value is malformed";
 
 /// Scripts, the numbers of their bad lines, and what is wrong with these.
-const BAD: [(&str, u64, &str); 26] = [
+const BAD: [(&str, u64, &str); 29] = [
     ("", 1, MISSING),
     ("unsync\n", 3, MISSING),
     ("unsync", 1, NO_LINE_FEED),
@@ -58,10 +58,13 @@ const BAD: [(&str, u64, &str); 26] = [
     ("core\nbegin\n", 2, MOMENT),
     ("unsync\n0 sync\n", 2, REQUEST),
     ("sync\n0 drop-if 1\n", 2, REQUEST),
+    ("sync\n0 modify 7 a\n", 2, REQUEST),
+    ("recorded\n0 expire\n", 2, REQUEST),
     ("recorded\n0 iter 1\n", 2, REQUEST),
     ("sketch 8\nget 1\n", 2, REQUEST),
     ("core\n0 policy 1\n", 2, REQUEST),
     ("unsync\n0 drop-if\n", 2, WORDS),
+    ("unsync\n0 modify 7\n", 2, WORDS),
     ("unsync\n0 insert 7 a live 5\n", 2, WORDS),
     ("sync live 5s\n0 insert 7 a live 5s\n", 2, WORDS),
     ("sync\n0 iter 1\n", 2, WORDS),

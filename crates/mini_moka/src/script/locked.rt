@@ -152,7 +152,8 @@ fn reply_to<A: Allocator + Clone + Drop, R: Wait, W: WeighShared<u64, Stored<Tex
             cache.invalidate_all(now);
             push_reply(text, ReplyValue::Done)
         }
-        Request::InvalidateIf { .. } => unreachable!(),
+        Request::Modify { .. } | Request::RemoveExpired | Request::InvalidateIf { .. } =>
+            unreachable!(),
         Request::Sync => {
             cache.sync(rt, now);
             push_reply(text, ReplyValue::Done)

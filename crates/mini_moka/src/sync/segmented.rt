@@ -8,4 +8,5 @@ pub use moka_segments::owners::Owners;
 pub use moka_segments::rule::{Rule, Unruled};
 pub use moka_segments::session::{NotifyingSession, Session};
 pub use moka_segments::weigher::Weighing;
+pub use moka_unsync::error::{TimedInsertError, TryInsertError};
 pub use moka_unsync::listener::{Cause, Listener, NoListener, Statistics};

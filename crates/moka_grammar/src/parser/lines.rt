@@ -1,7 +1,7 @@
 // From the words of a line to a request to a cache, and its moment.
 ghost use Rattle.std.specs.Prelude.{map};
 ghost use Rattle.moka_grammar.specs.Reading.{Gives, GivesLeft};
-ghost use Rattle.moka_grammar.specs.ReadingLines.{weight_of, insert_of, invalidate_if_of, bare_of, request_of, line_from_words};
+ghost use Rattle.moka_grammar.specs.ReadingLines.{weight_of, insert_of, modify_of, invalidate_if_of, bare_of, request_of, line_from_words};
 
 use crate::line::{CacheHeader, CacheOptions, Line, Request};
 use crate::parser::from_words::FromWords;
@@ -59,6 +59,9 @@ fn request_of<A: Allocator + Clone + Drop>(
         let key = u64_of(arguments)?;
         return Ok(Request::Remove { key });
     }
+    if call == b"modify".as_slice() {
+        return modify_of(alloc, options, arguments);
+    }
     if call == b"drop-if".as_slice() {
         return invalidate_if_of(alloc, arguments);
     }
@@ -76,6 +79,9 @@ fn bare_of<A: Allocator + Clone + Drop>(
     no_argument(arguments)?;
     if call == b"clear".as_slice() {
         return Ok(Request::InvalidateAll);
+    }
+    if call == b"expire".as_slice() {
+        return Ok(Request::RemoveExpired);
     }
     if call == b"sync".as_slice() {
         return Ok(Request::Sync);
@@ -117,6 +123,24 @@ fn insert_of<A: Allocator + Clone + Drop>(
         weight,
         live,
     })
+}
+
+#[tactic(auto, unfolding(crate::specs::ReadingLines::modify_of))]
+fn modify_of<A: Allocator + Clone + Drop>(
+    alloc: A,
+    options: CacheOptions,
+    arguments: &[&[u8]],
+) -> Result<Request<Text<A>>, LineError>
+    ensures { Gives result (modify_of options (map (λ word. word.now) arguments.now)) }
+{
+    let [key, text, behind @ ..] = arguments else {
+        return Err(LineError::Bad);
+    };
+    let key = number_of(key)?;
+    let (weight, behind) = weight_of(options, behind)?;
+    no_argument(behind)?;
+    let text = text_of(alloc, text)?;
+    Ok(Request::Modify { key, text, weight })
 }
 
 #[tactic(auto, unfolding(crate::specs::ReadingLines::invalidate_if_of))]

@@ -5,9 +5,10 @@ use mini_moka::unsync::{Cache, Call};
 use moka_examples::calling::{is_found_after, minute_cache, take_out};
 use moka_examples::pages::Pages;
 use moka_examples::probes::{ServerRef, count_request, forget_server, role_of};
+use moka_examples::saved::{restore, save};
 use moka_examples::uses::{
-    count_after_calls, counts_of_what_left, found_within_ten_seconds, half_of, least_recently_used,
-    left_of_64, millis_after_noon, remember, square_of_seven, weight_in_bytes,
+    count_after_calls, count_visit, counts_of_what_left, found_within_ten_seconds, half_of,
+    least_recently_used, left_of_64, millis_after_noon, remember, square_of_seven, weight_in_bytes,
 };
 use std::alloc::Global;
 use std::rc::Rc;
@@ -107,5 +108,45 @@ fn taken_twice(alloc: Global) -> Result<[bool; 2], Error> {
 fn what_was_written_is_found_and_taken_out_once(rt: HostRuntime) -> Result<(), Fail> {
     let found = (is_written(rt.alloc())?, taken_twice(rt.alloc())?);
     assert_eq!(rt; found, (true, [true, false]));
+    Ok(())
+}
+
+/// Sixty pairs in a cache for a hundred, of which some were asked for.
+fn asked(alloc: Global, now: Instant) -> Result<Cache<u64, u64>, Error> {
+    let mut cache = Cache::new(alloc, 100)?;
+    for key in 0..60u64 {
+        cache.insert(key, key.saturating_mul(key), now)?;
+    }
+    for key in [7, 3, 7, 50] {
+        let _ = cache.get(&key, now);
+    }
+    Ok(cache)
+}
+
+// The other cache saves the same lines: it has the same pairs in the same order, and their popularity.
+#[test]
+fn a_cache_is_saved_and_filled_again(rt: HostRuntime) -> Result<(), Fail> {
+    let (alloc, now) = (rt.alloc(), Instant::from_secs(0));
+    let cache = asked(alloc, now)?;
+    let text = save(alloc, &cache)?;
+    assert!(rt; text.ends_with("3 9 1\n7 49 2\n50 2500 1\n59 3481 0\n"));
+    let mut other = Cache::new(alloc, 100)?;
+    assert_eq!(rt; restore(&mut other, &text, now)?, 60);
+    assert!(rt; save(alloc, &other)?.as_str() == text.as_str());
+    let mut third = Cache::new(alloc, 100)?;
+    let number = restore(&mut third, "1 2 3\n4 5\n6 7 8\n", now)?;
+    assert_eq!(rt; (number, third.entry_count()), (1, 1));
+    Ok(())
+}
+
+#[test]
+fn visits_are_counted_in_place(rt: HostRuntime) -> Result<(), Fail> {
+    let now = Instant::from_secs(0);
+    let mut visits = Cache::new(rt.alloc(), 100)?;
+    for page in [7, 8, 7, 7] {
+        count_visit(&mut visits, page, now)?;
+    }
+    let counts = [7, 8].map(|page| visits.peek(&page, now).copied());
+    assert_eq!(rt; counts, [Some(3), Some(1)]);
     Ok(())
 }

@@ -1,5 +1,6 @@
 use Rattle.std.proofs.Common.{None, Some, rules, ◌≡◌, ◌++◌, OnOk, option_map, refl, ap, ◌∙◌, subst}
 use Rattle.std.proofs.lemmas.List.{length-map}
+use Rattle.moka_unsync.specs.Insert.{Modifies}
 use Rattle.moka_unsync.specs.Invalidate.{after_invalidate_if}
 use Rattle.moka_unsync.specs.Lookup.{found_by_get}
 use Rattle.moka_unsync.specs.Step as machine
@@ -7,8 +8,8 @@ use Rattle.moka_script.specs.Reply.{Done, Found, Truth, Number, Pairs, Limits, r
 use Rattle.moka_script.specs.ReplyValue.{reply_of}
 use Rattle.moka_script.specs.ScriptKeys.{script_keys}
 use Rattle.moka_script.specs.ScriptWeighers.{AnswersRequest}
-use Rattle.moka_script.specs.Stored.{stored_text}
-use Rattle.moka_script.specs.UnsyncRun.{TellsInsert, have_text}
+use Rattle.moka_script.specs.Stored.{stored_text, stored_weighs}
+use Rattle.moka_script.specs.UnsyncRun.{TellsInsert, TellsModified, have_text}
 use Rattle.moka_script.proofs.UnsyncRunLemmas.{replied}
 use Rattle.moka_script.proofs.unsync.reply_to.Goals as goal
 
@@ -54,6 +55,31 @@ pub returns-in-InvalidateAll-clause-step : goal.returns-in-InvalidateAll-clause-
 returns-in-InvalidateAll-clause-step g c =
     replied _ _ _ _ _ _ c.push_reply-in-InvalidateAll.result _ _ Done c.from_nanos-now.ensures c.in-InvalidateAll.is
     (machine.Done, (refl, c.invalidate_all.ensures.step), refl) c.push_reply-in-InvalidateAll.ensures
+
+pub returns-in-RemoveExpired-clause-step : goal.returns-in-RemoveExpired-clause-step
+returns-in-RemoveExpired-clause-step g c =
+    let entries = c.args.cache.now.contents.entries in
+    replied _ _ _ _ _ _ c.push_reply-in-RemoveExpired.result _ _ Done c.from_nanos-now.ensures c.in-RemoveExpired.is
+    (machine.Done, ((refl, length-map entries _), c.remove_expired.ensures.step), refl) c.push_reply-in-RemoveExpired.ensures
+
+pub modify-there-requires-clause-weighs : goal.modify-there-requires-clause-weighs
+modify-there-requires-clause-weighs g c =
+    let value : c.stored_text-stored-in-Modify.result ≡ stored_text c.in-Modify.value c.in-Modify.weight = search rules in
+    rw value (subst (AnswersRequest g.W.Weigh.weighs) c.in-Modify.is c.requires.weighs)
+
+pub returns-in-Modify-clause-step : goal.returns-in-Modify-clause-step
+returns-in-Modify-clause-step g c =
+    let value : c.stored_text-stored-in-Modify.result ≡ stored_text c.in-Modify.value c.in-Modify.weight = search rules in
+    let step : TellsModified c.args.cache.now c.in-Modify.key (stored_text c.in-Modify.value c.in-Modify.weight) c.from_nanos-now.result
+    (Truth c.modify-there.result) c.modify-there.new.cache = (
+      c.modify-there.result,
+      subst (λ s. Modifies script_keys stored_weighs
+          (λ before after. after ≡ s) c.modify-there.result c.args.cache.now c.in-Modify.key c.from_nanos-now.result c.modify-there.new.cache) value
+          c.modify-there.ensures.step,
+      refl,
+    ) in
+    replied _ _ _ _ _ _ c.push_reply-in-Modify.result _ _ (Truth c.modify-there.result) c.from_nanos-now.ensures c.in-Modify.is
+    step c.push_reply-in-Modify.ensures
 
 pub returns-in-InvalidateIf-clause-step : goal.returns-in-InvalidateIf-clause-step
 returns-in-InvalidateIf-clause-step g c =

@@ -48,7 +48,7 @@ returns-in-WeightedSize-clause-step g c =
 pub returns-in-Ok-clause-step : goal.returns-in-Ok-clause-step
 returns-in-Ok-clause-step g c =
     stepped (keys g) g.W.Weigh.weighs c.args.cache.now c.insert.new.self _ c.args.call
-    (call.Insert c.in-Insert.key c.in-Insert.value c.in-Insert.now) Done c.in-Insert.is (inl (refl, c.in-Ok.ensures.step)) (_, refl, refl, refl)
+    (call.Insert c.in-Insert.key c.in-Insert.value c.in-Insert.now) Done c.in-Insert.is (inl (refl, c.in-Ok.ensures.step.put)) (_, refl, refl, refl)
 
 pub returns-in-Err-clause-step : goal.returns-in-Err-clause-step
 returns-in-Err-clause-step g c =

@@ -1,4 +1,4 @@
-use Rattle.std.proofs.Common.{◌≡◌, ◌∙◌, None, ap, length, refl, sym}
+use Rattle.std.proofs.Common.{◌≡◌, ◌∙◌, None, ap, length, sym}
 use Rattle.moka_common.specs.Enabling.{after_enabling}
 use Rattle.moka_unsync_model.specs.Contents.{total_weight}
 use Rattle.moka_unsync_model.specs.Memory.{after_remembering}

@@ -1,6 +1,4 @@
-use Rattle.std.proofs.Common.{◌≡◌, ◌∙◌, ◌<◌, ℕ, None, Option, Some, ap, arith, length, refl, subst, sym, true}
-use Rattle.moka_common.specs.Sketch.{Table}
-use Rattle.moka_common.specs.SketchCapacity.{table_len}
+use Rattle.std.proofs.Common.{length, true}
 use Rattle.moka_unsync_model.specs.Contents.{total_weight}
 use Rattle.moka_store.specs.Store.{entries_of}
 use Rattle.moka_unsync.proofs.FollowLemmas.{asked_before, some_table}

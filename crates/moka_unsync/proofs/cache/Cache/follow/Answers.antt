@@ -4,7 +4,7 @@ use Rattle.moka_unsync_model.specs.declared.shares.Shares.{Shares}
 use Rattle.moka_unsync_model.specs.Contents.{entry_at, main_of, total_weight}
 use Rattle.moka_unsync_model.specs.Memory.{at_most}
 use Rattle.moka_unsync_model.specs.Shares.{limits_of, main_limit, protected_room, windowed_limits}
-use Rattle.moka_unsync_model.specs.CacheState.{CacheState, windowed}
+use Rattle.moka_unsync_model.specs.CacheState.{CacheState}
 use Rattle.moka_unsync_model.specs.Cleanup.{least_recent}
 use Rattle.moka_unsync_model.specs.Window.{after_displacing, after_sharing, given_up}
 use Rattle.moka_unsync_model.proofs.ToldLemmas.{also_for, and_moved, untold}

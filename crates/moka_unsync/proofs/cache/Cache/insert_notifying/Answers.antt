@@ -194,19 +194,22 @@ inserted : (g : Over) (c : After-weigh g) (refused : Refused) (new : CacheState 
     (its_start g c) c.args.key c.args.value (option_map as_nanos c.args.time_to_live) c.args.now new
 inserted g c refused new step =
     record {
-      weight = c.weigh.result;
-      weigher = c.weigh.new.self;
-      refused = refused;
-      capacity = c.reserve.new.self.capacity;
+      put = record {
+        weight = c.weigh.result;
+        weigher = c.weigh.new.self;
+        refused = refused;
+        capacity = c.reserve.new.self.capacity;
+        room = λ absent. its_room g c;
+        kept = its_capacity g c;
+        weighed = search rules;
+        small = search rules;
+        step =
+            step
+            ∙ (λ i. after_insert g.K.PartialEq.eq (its_cache g c)
+            (record (its_entry g c (its_hash g c)) { deadline = c.deadline-deadline.ensures i; outlasts = c.is_beyond-outlasts.ensures i })
+            c.args.now refused);
+      };
       grown = its_room g c;
-      kept = its_capacity g c;
-      weighed = search rules;
-      small = search rules;
-      step =
-          step
-          ∙ (λ i. after_insert g.K.PartialEq.eq (its_cache g c)
-          (record (its_entry g c (its_hash g c)) { deadline = c.deadline-deadline.ensures i; outlasts = c.is_beyond-outlasts.ensures i })
-          c.args.now refused);
     }
 
 pub returns-in-Some-clause-step : goal.returns-in-Some-clause-step
