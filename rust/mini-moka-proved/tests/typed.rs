@@ -94,6 +94,22 @@ impl Pair {
             9 => assert_eq!(typed.remove(&key), numbers.remove(key).unwrap()),
             10 => assert_eq!(typed.peek(&key).copied(), numbers.peek(key)),
             11 => assert_eq!(typed.contains_key(&key), numbers.contains_key(key)),
+            13 => {
+                let before = numbers.peek(key);
+                if before.is_some() {
+                    numbers.insert(key, value).unwrap();
+                }
+                let modified = typed.modify(&key, |old| {
+                    assert_eq!(Some(*old), before);
+                    *old = value;
+                });
+                assert_eq!(modified, before.is_some());
+                return before.map(|old| (key, old, Cause::Replaced));
+            }
+            14 => {
+                numbers.remove_expired();
+                typed.remove_expired();
+            }
             12 => {
                 numbers.invalidate(key);
                 typed.invalidate(&key);
@@ -109,12 +125,16 @@ impl Pair {
         None
     }
 
-    /// Compares what left in a call.
-    fn compare_left(&mut self, returned: Option<(u64, u64, Cause)>) {
+    /// Compares what left in a call, in any order if a call removed all expired entries.
+    fn compare_left(&mut self, call: u64, returned: Option<(u64, u64, Cause)>) {
         let mut told = self.told.take();
         told.extend(returned);
         let removed = self.numbers.removed();
-        let left: Vec<_> = removed.map(|it| (it.key, it.value, it.cause)).collect();
+        let mut left: Vec<_> = removed.map(|it| (it.key, it.value, it.cause)).collect();
+        if call == 14 {
+            told.sort_by_key(|entry| entry.0);
+            left.sort_by_key(|entry| entry.0);
+        }
         // A call returns its own entry after those that left.
         assert_eq!(told, left);
     }
@@ -139,8 +159,9 @@ fn without_collisions_it_is_the_cache_of_numbers() {
                 0 => random.below(60),
                 _ => random.below(300),
             };
-            let returned = pair.call(random.below(15), key, value);
-            pair.compare_left(returned);
+            let call = random.below(17);
+            let returned = pair.call(call, key, value);
+            pair.compare_left(call, returned);
             assert_eq!(pair.typed.len(), pair.numbers.len());
             assert_eq!(pair.typed.window_capacity(), pair.numbers.window_capacity());
             if value % 100 == 0 {
@@ -256,6 +277,22 @@ impl Colliding {
                 }
             }
             14 => assert_eq!(self.cache.peek(&key).copied(), live),
+            15 => {
+                let modified = self.cache.modify(&key, |old| {
+                    assert_eq!(Some(*old), live);
+                    *old = value;
+                });
+                assert_eq!(modified, live.is_some());
+                self.left(None, now);
+                if modified {
+                    self.write(key, value, now);
+                }
+            }
+            16 if value % 20 == 0 => {
+                self.cache.remove_expired();
+                self.left(None, now);
+                assert!(self.entries.values().all(|entry| self.is_live(entry, now)));
+            }
             _ if value % 200 == 0 => {
                 self.cache.invalidate_entries_if(|key, _| key % 3 == 0);
                 assert!(self.cache.iter().all(|(key, _)| key % 3 > 0));
@@ -314,6 +351,56 @@ impl Colliding {
 }
 
 #[test]
+fn all_expired_entries_leave_at_once() {
+    let (told, clock) = (Told::new(), ManualClock::new());
+    let mut cache = Cache::builder()
+        .time_to_live(ns(100))
+        .eviction_listener(told.listener())
+        .manual_clock(&clock)
+        .build();
+    cache.insert(0, 0);
+    for key in 1..=3000u64 {
+        let stored = cache.insert_with_time_to_live(key, key, ns(5));
+        assert_eq!(stored, Ok(Insertion::New));
+    }
+    clock.set(ns(4));
+    cache.remove_expired();
+    assert_eq!((cache.len(), told.take()), (3001, Vec::new()));
+    clock.set(ns(5));
+    cache.remove_expired();
+    assert_eq!((cache.len(), cache.statistics().expirations), (1, 3000));
+    let mut told = told.take();
+    told.sort_by_key(|entry| entry.0);
+    let wanted = (1..=3000).map(|key| (key, key, Cause::Expired));
+    assert!(told.into_iter().eq(wanted));
+    assert_eq!(cache.get(&0), Some(&0));
+}
+
+#[test]
+fn a_modified_entry_lives_as_long_as_a_new_one() {
+    let (told, clock) = (Told::new(), ManualClock::new());
+    let mut cache = Cache::builder()
+        .max_capacity(10)
+        .time_to_live(ns(10))
+        .eviction_listener(told.listener())
+        .manual_clock(&clock)
+        .build();
+    cache.insert("text", "a".to_string());
+    cache.insert("other", "b".to_string());
+    clock.set(ns(6));
+    assert!(cache.modify("text", |text| text.push('c')));
+    assert!(!cache.modify("none", |_| unreachable!()));
+    let keys: Vec<_> = cache.iter().map(|(key, _)| *key).collect();
+    assert_eq!(keys, ["other", "text"]);
+    clock.set(ns(15));
+    assert_eq!(cache.get("text").map(String::as_str), Some("ac"));
+    assert_eq!(told.take(), [("other", "b".to_string(), Cause::Expired)]);
+    clock.set(ns(16));
+    assert!(!cache.modify("text", |_| unreachable!()));
+    assert_eq!(cache.get("text"), None);
+}
+
+#[test]
 fn keys_whose_hashes_collide_are_distinct() {
     let mut hits = 0;
     for seed in 0..60 {
@@ -331,7 +418,7 @@ fn keys_whose_hashes_collide_are_distinct() {
                 0 => random.below(20),
                 _ => random.below(200),
             };
-            pair.call(random.below(16), key, value, moment);
+            pair.call(random.below(18), key, value, moment);
             if value % 100 == 0 {
                 pair.compare_all(moment);
             }

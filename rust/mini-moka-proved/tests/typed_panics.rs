@@ -108,12 +108,16 @@ impl Tried {
                 key.0 == number
             }),
             7 => cache.invalidate_all(),
+            9 => drop(cache.modify(&Key(number), |old| {
+                step();
+                *old = Value::new(value);
+            })),
             _ => drop(cache.get(&Key(number)).map(|found| found.0)),
         }));
         FUSE.with(|it| it.set(None));
         let allowed = self.model.entry(number).or_default();
         match call {
-            0..=3 => drop(allowed.insert(Some(value))),
+            0..=3 | 9 => drop(allowed.insert(Some(value))),
             _ => drop(allowed.insert(None)),
         }
         made.is_err()
@@ -149,7 +153,7 @@ impl Tried {
 fn a_panic_of_the_programs_code_loses_nothing() {
     let hook = take_hook();
     set_hook(Box::new(|_| ()));
-    let mut panics = [0; 9];
+    let mut panics = [0; 10];
     for seed in 0..30 {
         let mut random = Random(seed);
         let mut tried = Tried::new(&mut random);
@@ -158,6 +162,7 @@ fn a_panic_of_the_programs_code_loses_nothing() {
                 0 => 7,
                 1 => 6,
                 2..=7 => 8,
+                8..=11 => 9,
                 other => other % 6,
             };
             let fuse = (random.below(2) == 0).then(|| random.below(6) as u32);

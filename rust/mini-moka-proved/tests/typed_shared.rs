@@ -26,7 +26,7 @@ fn work<S: BuildHasher>(cache: &Cache<u64, String, S>, thread: u64) {
         let number = random.below(KEYS);
         let key = thread * KEYS + number;
         let value = format!("{thread} {number} {call}");
-        match random.below(8) {
+        match random.below(9) {
             0..=2 => match cache.insert(key, value.clone()) {
                 Insertion::Rejected => drop(model.remove(&number)),
                 Insertion::Replaced(old) => {
@@ -49,6 +49,15 @@ fn work<S: BuildHasher>(cache: &Cache<u64, String, S>, thread: u64) {
                     assert_eq!(model.get(&number), Some(&found));
                 }
                 model.insert(number, found);
+            }
+            7 => {
+                let modified = cache.modify(&key, |found| {
+                    assert_eq!(model.get(&number), Some(&*found));
+                    found.push('+');
+                });
+                if modified {
+                    model.get_mut(&number).unwrap().push('+');
+                }
             }
             _ => {
                 if let Some(found) = cache.peek(&key) {
@@ -675,4 +684,44 @@ fn it_is_send_and_sync_if_its_parts_are() {
     // A value needn't be `Sync`, since each is used under a lock.
     may_be_shared::<Cache<u64, Cell<u8>>>();
     may_be_shared::<Mutex<mini_moka_proved::Cache<u64, u64>>>();
+}
+
+#[test]
+fn no_call_comes_between_a_modification() {
+    let cache = Cache::new(1000);
+    cache.insert("count", 0);
+    thread::scope(|scope| {
+        for _ in 0..4 {
+            scope.spawn(|| {
+                for _ in 0..1000 {
+                    assert!(cache.modify("count", |count| *count += 1));
+                    assert!(!cache.modify("none", |_| unreachable!()));
+                }
+            });
+        }
+    });
+    assert_eq!(cache.get("count"), Some(4000));
+}
+
+#[test]
+fn expired_entries_leave_all_segments() {
+    let (told, clock) = (Told::new(), ManualClock::new());
+    let cache = Cache::builder()
+        .segments(4)
+        .time_to_live(SECOND)
+        .eviction_listener(told.listener())
+        .manual_clock(&clock)
+        .build();
+    for key in 0..5000u64 {
+        cache.insert(key, ());
+    }
+    cache.remove_expired();
+    assert_eq!(cache.len(), 5000);
+    clock.advance(SECOND);
+    cache.remove_expired();
+    assert_eq!((cache.len(), cache.statistics().expirations), (0, 5000));
+    let mut told = told.take();
+    told.sort_by_key(|entry| entry.0);
+    let wanted = (0..5000).map(|key| (key, (), Cause::Expired));
+    assert!(told.into_iter().eq(wanted));
 }

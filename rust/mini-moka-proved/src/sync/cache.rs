@@ -59,9 +59,10 @@ use std::time::Duration;
 ///
 /// # Code of the program
 ///
-/// While a segment is locked, a call runs `Eq` of keys and `Clone` of values, and
-/// [`iter`](Self::iter) also `Clone` of keys. They must not call the cache. All else runs while no
-/// lock is held, and may call it: `Hash`, closures, the listener, and what is dropped.
+/// While a segment is locked, a call runs `Eq` of keys and `Clone` of values,
+/// [`iter`](Self::iter) also `Clone` of keys, and [`modify`](Self::modify) its change. They must not
+/// call the cache. All else runs while no lock is held, and may call it: `Hash`, other closures, the
+/// listener, and what is dropped.
 pub struct Cache<K, V, S = RandomState> {
     shared: Arc<Shared<K, V, S>>,
 }
@@ -227,6 +228,27 @@ impl<K: Hash + Eq, V, S: BuildHasher> Cache<K, V, S> {
                 }
             })
         })
+    }
+
+    /// Changes the value of the key in its place, and returns `true`, or `false` if the key has no
+    /// unexpired entry, as [`unsync::Cache::modify`](crate::unsync::Cache::modify) does. No other call
+    /// on the key comes between. `change` must not call the cache, which would wait for itself.
+    ///
+    /// # Panics
+    ///
+    /// If memory is refused.
+    pub fn modify<Q>(&self, key: &Q, change: impl FnOnce(&mut V)) -> bool
+    where
+        K: Borrow<Q>,
+        Q: Hash + Eq + ?Sized,
+    {
+        let hash = self.hash(key);
+        match self.visit(hash, |state, now| {
+            state.table.modify(key, hash, now, change)
+        }) {
+            Ok(modified) => modified,
+            Err(error) => panic!("{error}"),
+        }
     }
 
     /// Looks up the key as [`get`](Self::get) does, and inserts the value that `make` returns if the
@@ -412,6 +434,13 @@ impl<K: Hash + Eq, V, S: BuildHasher> Cache<K, V, S> {
 }
 
 impl<K, V, S> Cache<K, V, S> {
+    /// Removes all expired entries, also those behind unexpired ones, one segment after another.
+    pub fn remove_expired(&self) {
+        for segment in &self.shared.segments {
+            self.visit_segment(segment, |state, now| state.table.remove_expired(now));
+        }
+    }
+
     /// Removes all entries, one segment after another.
     pub fn invalidate_all(&self) {
         for segment in &self.shared.segments {

@@ -215,6 +215,41 @@ impl<K: Hash + Eq, V, S: BuildHasher> Cache<K, V, S> {
         insertion
     }
 
+    /// Changes the value of the key in its place, and returns `true`, or `false` if the key has no
+    /// unexpired entry. Then `change` isn't called.
+    ///
+    /// It acts as an insert of the changed value, so the entry lives as long as a new one. The
+    /// listener doesn't get the value. If `change` panics, the value stays as it is then.
+    ///
+    /// ```
+    /// use mini_moka_proved::Cache;
+    ///
+    /// let mut visits = Cache::new(100);
+    /// for page in ["home", "about", "home"] {
+    ///     if !visits.modify(page, |count| *count += 1) {
+    ///         visits.insert(page, 1);
+    ///     }
+    /// }
+    /// assert_eq!(visits.get("home"), Some(&2));
+    /// ```
+    ///
+    /// # Panics
+    ///
+    /// If memory is refused.
+    pub fn modify<Q>(&mut self, key: &Q, change: impl FnOnce(&mut V)) -> bool
+    where
+        K: Borrow<Q>,
+        Q: Hash + Eq + ?Sized,
+    {
+        let hash = self.hash(key);
+        let modified = self.table.modify(key, hash, self.moment(), change);
+        self.tell();
+        match modified {
+            Ok(modified) => modified,
+            Err(error) => panic!("{error}"),
+        }
+    }
+
     /// Looks up the key as [`get`](Self::get) does, and inserts the value that `make` returns if the
     /// key has none.
     ///
@@ -308,6 +343,14 @@ impl<K: Hash + Eq, V, S: BuildHasher> Cache<K, V, S> {
     /// ```
     pub fn invalidate_entries_if(&mut self, predicate: impl FnMut(&K, &V) -> bool) {
         self.table.invalidate_if(predicate, self.moment());
+        self.tell();
+    }
+
+    /// Removes all expired entries, also those behind unexpired ones, in time linear in the number of
+    /// entries. Without it an expired entry may keep its memory for long: other calls remove a batch
+    /// of them at most.
+    pub fn remove_expired(&mut self) {
+        self.table.remove_expired(self.moment());
         self.tell();
     }
 
