@@ -13,7 +13,7 @@
  *
  * The size of a cache:
  *
- * - An update with a longer value may leave a weighed cache above its capacity. Then each insert, get, mini_moka_contains, mini_moka_remove and
+ * - An update with a heavier value may leave a weighed cache above its capacity. Then each insert, get, mini_moka_contains, mini_moka_remove and
  *   mini_moka_invalidate first evicts up to 100 entries, in the order of a walk, until the others fit. An update heavier than the whole capacity is
  *   stored, so these calls evict most entries and the update: remove its key instead. Any other cache never exceeds its capacity.
  * - A cache has at most 2,000,000,000 entries; then an insert returns MINI_MOKA_OUT_OF_MEMORY. An entry weighs at most UINT32_MAX, even if it has more bytes.
@@ -221,7 +221,7 @@ uint32_t mini_moka_removed(struct mini_moka *handle, void *key, size_t key_room,
 
 /* Settings of a cache of numbers. They work as those of bytes. */
 struct mini_moka_u64_settings {
-    uint64_t capacity;       /* maximum number of entries */
+    uint64_t capacity;       /* maximum number of entries; if is_weighed is set, maximum weight of all */
     uint64_t time_to_live;   /* nanoseconds that an entry lives after its last write */
     uint64_t time_to_idle;   /* nanoseconds that an entry lives after its last read or write */
     size_t initial_capacity; /* number of entries for which memory is reserved; up to it, no insert is refused memory */
@@ -229,11 +229,12 @@ struct mini_moka_u64_settings {
     uint8_t window_share;    /* the window's share of the capacity in percent, at most 100; 0 for no window */
     uint8_t protected_share; /* the share of the capacity outside of the window, in percent, that is for entries used there; at most 100 */
     bool is_adaptive;        /* true if the window's share follows the calls */
+    bool is_weighed;         /* true if an entry weighs the upper 32 bits of its value instead of 1 */
 };
 
 /* Settings without limits: of a cache whose window adapts, and of one with a fixed window. */
-#define MINI_MOKA_U64_ADAPTIVE_SETTINGS_INIT {MINI_MOKA_UNLIMITED, MINI_MOKA_UNLIMITED, MINI_MOKA_UNLIMITED, 0, 0, 1, 80, true}
-#define MINI_MOKA_U64_SETTINGS_INIT {MINI_MOKA_UNLIMITED, MINI_MOKA_UNLIMITED, MINI_MOKA_UNLIMITED, 0, 0, 1, 0, false}
+#define MINI_MOKA_U64_ADAPTIVE_SETTINGS_INIT {MINI_MOKA_UNLIMITED, MINI_MOKA_UNLIMITED, MINI_MOKA_UNLIMITED, 0, 0, 1, 80, true, false}
+#define MINI_MOKA_U64_SETTINGS_INIT {MINI_MOKA_UNLIMITED, MINI_MOKA_UNLIMITED, MINI_MOKA_UNLIMITED, 0, 0, 1, 0, false, false}
 
 /* Opens a closed handle with a new cache. The hash function has a fixed key: if strangers choose the cache's keys, use a cache of bytes. */
 uint32_t mini_moka_u64_open(struct mini_moka *handle, const struct mini_moka_u64_settings *settings);

@@ -149,13 +149,14 @@ static inline uint32_t mini_moka_segments_open_all(struct mini_moka_segments *al
 /* Opens a segment of numbers, by the settings that both kinds have. */
 static inline uint32_t mini_moka_segments_u64_open_one(struct mini_moka *segment, const struct mini_moka_settings *part) {
     const struct mini_moka_u64_settings settings = {part->capacity,     part->time_to_live, part->time_to_idle,    part->initial_capacity,
-                                                    part->removed_room, part->window_share, part->protected_share, part->is_adaptive};
+                                                    part->removed_room, part->window_share, part->protected_share, part->is_adaptive,
+                                                    part->is_weighed};
     return mini_moka_u64_open(segment, &settings);
 }
 
 /*
- * Opens a cache of `count` segments. If that is 0, chooses up to 16, each with a capacity of at least 100 entries, or 1 MiB if bytes are weighed; a smaller
- * cache has one. Each segment has its part of the capacity, of initial_capacity and of removed_room, which is rounded up. Keys are never spread quite evenly, so
+ * Opens a cache of `count` segments. If that is 0, chooses up to 16, each with a capacity of at least 100 entries, or 2^20 if entries are weighed; a
+ * smaller cache has one. Each segment has its part of the capacity, of initial_capacity and of removed_room, which is rounded up. Keys are never spread quite evenly, so
  * a segment may grow although the whole cache has fewer entries than initial_capacity, unless that is the capacity. With more segments than the capacity some
  * keep nothing. If a segment can't be opened, nothing stays open.
  */
@@ -166,7 +167,7 @@ static inline uint32_t mini_moka_segments_open(struct mini_moka_segments *all, c
 /* Opens a cache of numbers in the same way. Calls for bytes return MINI_MOKA_OTHER_KIND on it, as calls for numbers do on one of bytes. */
 static inline uint32_t mini_moka_segments_u64_open(struct mini_moka_segments *all, const struct mini_moka_u64_settings *settings, size_t count) {
     const struct mini_moka_settings both = {settings->capacity,     settings->time_to_live, settings->time_to_idle, settings->initial_capacity,
-                                            {0, 0},                 false,                  settings->removed_room, settings->window_share,
+                                            {0, 0},                 settings->is_weighed,   settings->removed_room, settings->window_share,
                                             settings->protected_share, settings->is_adaptive};
     return mini_moka_segments_open_all(all, &both, count, mini_moka_segments_u64_open_one);
 }

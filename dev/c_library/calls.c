@@ -9,7 +9,7 @@
 enum { BEFORE = 99, ROOM = 8 };
 
 static const struct mini_moka_settings BYTES = {10, NONE, NONE, 0, {1, 2}, false, 0, 1, 0, false};
-static const struct mini_moka_u64_settings NUMBERS = {10, NONE, NONE, 0, 0, 1, 0, false};
+static const struct mini_moka_u64_settings NUMBERS = {10, NONE, NONE, 0, 0, 1, 0, false, false};
 
 /* Returns the number that mini_moka_count or mini_moka_weight writes. */
 static uint64_t number_of(uint32_t (*call)(struct mini_moka *, uint64_t *), struct mini_moka *cache) {
@@ -112,6 +112,25 @@ static void bytes_are_weighed(void) {
     CHECK(insert(&cache, "new", "", 0) == MINI_MOKA_REJECTED && contains(&cache, "new", 0) == MINI_MOKA_ABSENT);
     CHECK(insert(&cache, "much", "123456789012345678901", 0) == MINI_MOKA_REJECTED && contains(&cache, "much", 0) == MINI_MOKA_ABSENT);
     CHECK(number_of(mini_moka_count, &cache) == 2 && !mini_moka_is_error(MINI_MOKA_REJECTED));
+    CHECK(mini_moka_close(&cache) == MINI_MOKA_DONE);
+}
+
+/* In a weighed cache of numbers an entry weighs the upper half of its value: two entries of ten fill one of 20. */
+static void numbers_are_weighed(void) {
+    const uint64_t ten = (uint64_t)10 << 32;
+    struct mini_moka cache = {0};
+    struct mini_moka_u64_settings weighed = MINI_MOKA_U64_SETTINGS_INIT;
+    uint64_t value = BEFORE;
+    weighed.capacity = 20;
+    weighed.is_weighed = true;
+    CHECK(mini_moka_u64_open(&cache, &weighed) == MINI_MOKA_DONE);
+    CHECK(mini_moka_u64_insert(&cache, 1, ten + 7, 0) == MINI_MOKA_DONE && number_of(mini_moka_weight, &cache) == 10);
+    CHECK(mini_moka_u64_insert(&cache, 2, ten + UINT32_MAX, 0) == MINI_MOKA_DONE && number_of(mini_moka_weight, &cache) == 20);
+    CHECK(mini_moka_u64_insert(&cache, 3, (uint64_t)1 << 32, 0) == MINI_MOKA_REJECTED && mini_moka_u64_contains(&cache, 3, 0) == MINI_MOKA_ABSENT);
+    CHECK(mini_moka_u64_insert(&cache, 4, UINT32_MAX, 0) == MINI_MOKA_DONE && number_of(mini_moka_weight, &cache) == 20);
+    CHECK(mini_moka_u64_get(&cache, 1, 0, &value) == MINI_MOKA_DONE && value == ten + 7 && number_of(mini_moka_count, &cache) == 3);
+    CHECK(mini_moka_u64_insert(&cache, 1, ten + ten + 8, 0) == MINI_MOKA_DONE && number_of(mini_moka_weight, &cache) == 30);
+    CHECK(mini_moka_u64_contains(&cache, 1, 0) == MINI_MOKA_DONE && number_of(mini_moka_weight, &cache) == 20);
     CHECK(mini_moka_close(&cache) == MINI_MOKA_DONE);
 }
 
@@ -310,7 +329,7 @@ static void expired_numbers_leave_as_expired(void) {
     struct mini_moka_statistics met;
     uint64_t key = BEFORE, value = BEFORE;
     uint32_t cause = BEFORE;
-    CHECK(mini_moka_u64_open(&cache, &(struct mini_moka_u64_settings){10, NONE, 20, 0, 10, 1, 0, false}) == MINI_MOKA_DONE);
+    CHECK(mini_moka_u64_open(&cache, &(struct mini_moka_u64_settings){10, NONE, 20, 0, 10, 1, 0, false, false}) == MINI_MOKA_DONE);
     CHECK(mini_moka_u64_insert(&cache, 1, 1, 1) == MINI_MOKA_DONE);
     for (uint64_t i = 2; i < 6; i++)
         CHECK(mini_moka_u64_insert(&cache, i, i, 0) == MINI_MOKA_DONE);
@@ -705,8 +724,8 @@ static void too_much_room_is_refused(void) {
     struct mini_moka_settings settings = BYTES;
     settings.initial_capacity = SIZE_MAX;
     CHECK(mini_moka_open(&cache, &settings) == MINI_MOKA_OUT_OF_MEMORY);
-    CHECK(mini_moka_u64_open(&cache, &(struct mini_moka_u64_settings){10, NONE, NONE, SIZE_MAX, 0, 1, 0, false}) == MINI_MOKA_OUT_OF_MEMORY);
-    CHECK(mini_moka_u64_open(&cache, &(struct mini_moka_u64_settings){10, NONE, NONE, 0, SIZE_MAX, 1, 0, false}) == MINI_MOKA_OUT_OF_MEMORY);
+    CHECK(mini_moka_u64_open(&cache, &(struct mini_moka_u64_settings){10, NONE, NONE, SIZE_MAX, 0, 1, 0, false, false}) == MINI_MOKA_OUT_OF_MEMORY);
+    CHECK(mini_moka_u64_open(&cache, &(struct mini_moka_u64_settings){10, NONE, NONE, 0, SIZE_MAX, 1, 0, false, false}) == MINI_MOKA_OUT_OF_MEMORY);
     settings.initial_capacity = 0;
     settings.removed_room = SIZE_MAX;
     CHECK(mini_moka_open(&cache, &settings) == MINI_MOKA_OUT_OF_MEMORY);
@@ -717,6 +736,7 @@ int main(void) {
     bytes_come_and_go();
     long_values_stay();
     bytes_are_weighed();
+    numbers_are_weighed();
     calls_are_counted();
     walks_meet_each_entry();
     removed_entries_are_drained();

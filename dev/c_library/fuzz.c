@@ -184,14 +184,17 @@ static void check_drained(struct model *model, const struct mini_moka_statistics
 }
 
 static void play_counts(struct model *model) {
-    uint64_t count = 0, weight = 0, alive = 0, there = 0;
+    uint64_t count = 0, weight = 0, alive = 0, there = 0, least_weight = 0, most_weight = 0;
     require(mini_moka_count(&model->cache, &count) == MINI_MOKA_DONE && mini_moka_weight(&model->cache, &weight) == MINI_MOKA_DONE, "a count or weight failed");
     for (size_t i = 0; i < KEYS; i++) {
         alive += is_surely_alive(model, &model->keys[i]);
         there += model->keys[i].is_there;
+        least_weight += is_surely_alive(model, &model->keys[i]) ? weight_at(model, i) : 0;
+        most_weight += model->keys[i].is_there ? weight_at(model, i) : 0;
     }
     require(model->capacity != MINI_MOKA_UNLIMITED || (alive <= count && count <= there), "a wrong count");
     require(model->is_weighed || (weight == count && count <= model->capacity), "a wrong weight, or more entries than the capacity");
+    require(model->capacity != MINI_MOKA_UNLIMITED || (least_weight <= weight && weight <= most_weight), "a wrong weight of all entries");
     struct mini_moka_statistics met = statistics_of(model);
     require(met.hits == model->hits && met.misses == model->misses && met.inserts == model->inserts, "wrong statistics");
     require(met.rejections == model->rejections, "a wrong number of rejections");
@@ -365,7 +368,7 @@ static void set_shares(struct model *model, uint8_t *window, uint8_t *protected)
 static bool open_cache(struct model *model) {
     memset(model, 0, sizeof *model);
     model->is_bytes = below(4) != 0;
-    model->is_weighed = model->is_bytes && below(2) == 0;
+    model->is_weighed = below(2) == 0;
     model->capacity = below(2) == 0 ? MINI_MOKA_UNLIMITED : below(model->is_weighed ? 100000 : KEYS);
     model->time_to_live = below(2) == 0 ? MINI_MOKA_UNLIMITED : 1 + below(5000);
     model->time_to_idle = below(2) == 0 ? MINI_MOKA_UNLIMITED : 1 + below(2000);
@@ -382,7 +385,8 @@ static bool open_cache(struct model *model) {
         model->is_weighed, model->removed_room, window,              protected, model->is_adaptive,
     };
     struct mini_moka_u64_settings numbers = {
-        model->capacity, model->time_to_live, model->time_to_idle, room, model->removed_room, window, protected, model->is_adaptive,
+        model->capacity, model->time_to_live, model->time_to_idle, room,             model->removed_room,
+        window,          protected,           model->is_adaptive,  model->is_weighed,
     };
     call = 11;
     was_refused = false;

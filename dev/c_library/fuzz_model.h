@@ -137,8 +137,18 @@ static size_t key_bytes(uint8_t *bytes, uint64_t number) {
     return length;
 }
 
+/* The upper 32 bits, which a cache of numbers may weigh, are below 4096. */
 static uint64_t value_number(uint64_t key, uint64_t version) {
-    return mix(key * 31 + version);
+    return mix(key * 31 + version) % ((uint64_t)1 << 44);
+}
+
+/* Returns what the key's last entry weighs. */
+static uint64_t weight_at(const struct model *model, uint64_t key) {
+    static uint8_t bytes[LONGEST];
+    uint64_t value = value_number(key, model->keys[key].version);
+    if (!model->is_weighed)
+        return 1;
+    return model->is_bytes ? key_bytes(bytes, key) + fill(bytes, value) : value >> 32;
 }
 
 /* ---- calls, of either kind */

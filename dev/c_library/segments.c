@@ -521,7 +521,7 @@ static void one_segment_is_a_cache_of_numbers(void) {
         struct mini_moka_segments all = {0};
         struct mini_moka one = {0};
         struct mini_moka_statistics met, other;
-        struct mini_moka_u64_settings settings = {3, 20, 12, 0, 9, 1, 0, false};
+        struct mini_moka_u64_settings settings = {3, 20, 12, 0, 9, 1, 0, false, false};
         if (round == 1)
             settings.time_to_live = MINI_MOKA_UNLIMITED;
         else if (round == 2)
@@ -539,6 +539,21 @@ static void one_segment_is_a_cache_of_numbers(void) {
         CHECK(memcmp(&met, &other, sizeof met) == 0);
         CHECK(mini_moka_segments_close(&all) == MINI_MOKA_DONE && mini_moka_close(&one) == MINI_MOKA_DONE);
     }
+}
+
+/* The segments of a weighed cache of numbers weigh the upper halves of values. By default each has a capacity of 2^20 at least. */
+static void segments_weigh_numbers(void) {
+    struct mini_moka_segments cache = {0};
+    struct mini_moka_u64_settings settings = MINI_MOKA_U64_SETTINGS_INIT;
+    settings.capacity = 1 << 22;
+    settings.is_weighed = true;
+    CHECK(mini_moka_segments_u64_open(&cache, &settings, 0) == MINI_MOKA_DONE && cache.count == 4);
+    for (uint64_t key = 0; key < 100; key++)
+        CHECK(mini_moka_segments_u64_insert(&cache, key, key << 32 | 1, 0) == MINI_MOKA_DONE);
+    CHECK(number_of(&cache, mini_moka_segments_count) == 100 && number_of(&cache, mini_moka_segments_weight) == 4950);
+    CHECK(mini_moka_segments_u64_insert(&cache, 100, (uint64_t)1 << 51, 0) == MINI_MOKA_DONE);
+    CHECK(mini_moka_segments_u64_insert(&cache, 101, ((uint64_t)1 << 52) + ((uint64_t)1 << 32), 0) == MINI_MOKA_REJECTED);
+    CHECK(mini_moka_segments_close(&cache) == MINI_MOKA_DONE);
 }
 
 /* Returns the hits of random gets on a cache of numbers with these shares, or of a plain handle with them if it has no segment. Writes its last window. */
@@ -567,8 +582,8 @@ static uint64_t hits_of(const struct mini_moka_u64_settings *settings, size_t co
 /* The shares of a cache of numbers are those of its segments. Each changes the number of hits. */
 static void shares_of_numbers_are_kept(void) {
     const struct mini_moka_u64_settings rows[] = {
-        {200, MINI_MOKA_UNLIMITED, MINI_MOKA_UNLIMITED, 0, 0, 1, 0, false},  {200, MINI_MOKA_UNLIMITED, MINI_MOKA_UNLIMITED, 0, 0, 30, 0, false},
-        {200, MINI_MOKA_UNLIMITED, MINI_MOKA_UNLIMITED, 0, 0, 30, 50, false}, {200, MINI_MOKA_UNLIMITED, MINI_MOKA_UNLIMITED, 0, 0, 1, 80, true},
+        {200, MINI_MOKA_UNLIMITED, MINI_MOKA_UNLIMITED, 0, 0, 1, 0, false, false},   {200, MINI_MOKA_UNLIMITED, MINI_MOKA_UNLIMITED, 0, 0, 30, 0, false, false},
+        {200, MINI_MOKA_UNLIMITED, MINI_MOKA_UNLIMITED, 0, 0, 30, 50, false, false}, {200, MINI_MOKA_UNLIMITED, MINI_MOKA_UNLIMITED, 0, 0, 1, 80, true, false},
     };
     uint64_t hits[4], window, other;
     for (size_t i = 0; i < 4; i++) {
@@ -800,6 +815,7 @@ int main(void) {
     numbers_answer();
     numbers_are_spread();
     one_segment_is_a_cache_of_numbers();
+    segments_weigh_numbers();
     shares_of_numbers_are_kept();
     segments_remove_what_is_expired();
     visits_meet_each_entry();

@@ -208,7 +208,7 @@ static void *visit_and_drain(void *unused) {
 }
 
 static void threads_share_numbers(void) {
-    struct mini_moka_u64_settings settings = {310, 1000, 500, 0, 400, 1, 0, false};
+    struct mini_moka_u64_settings settings = {310, 1000, 500, 0, 400, 1, 0, false, false};
     struct mini_moka_statistics met;
     CHECK(mini_moka_segments_u64_open(&shared, &settings, 4) == MINI_MOKA_DONE);
     uint64_t gone = run(make_number_calls, visit_and_drain) + (uintptr_t)visit_and_drain(NULL);

@@ -142,6 +142,7 @@ static void initial_settings_have_their_shares(void) {
     CHECK(numbers.window_share == 1 && numbers.protected_share == 0 && !numbers.is_adaptive && numbers.removed_room == 0);
     CHECK(adaptive_bytes.window_share == 1 && adaptive_bytes.protected_share == 80 && adaptive_bytes.is_adaptive && !adaptive_bytes.is_weighed);
     CHECK(adaptive.window_share == 1 && adaptive.protected_share == 80 && adaptive.is_adaptive && adaptive.removed_room == 0);
+    CHECK(!numbers.is_weighed && !adaptive.is_weighed);
     CHECK(adaptive_bytes.capacity == NONE && adaptive_bytes.time_to_live == NONE && adaptive_bytes.time_to_idle == NONE);
     CHECK(adaptive.capacity == NONE && adaptive.time_to_live == NONE && adaptive.time_to_idle == NONE);
 }

@@ -17,8 +17,7 @@ use Rattle.moka_unsync_model.proofs.CauseLemmas.{using-stands}
 use Rattle.moka_unsync_model.proofs.HistoryLemmas.{something}
 use Rattle.mini_moka_c.specs.ByteKeys.{ByteCacheState, byte_keys, byte_weighs}
 use Rattle.mini_moka_c.specs.Inserted.{heard, inserted_of}
-use Rattle.mini_moka_c.specs.NumberCalls.{weighs_one}
-use Rattle.mini_moka_c.specs.NumberKeys.{NumberCacheState, number_keys}
+use Rattle.mini_moka_c.specs.NumberKeys.{NumberCacheState, number_keys, number_weighs}
 use Rattle.mini_moka_c.specs.Removed.{hears_leaving}
 use Rattle.mini_moka_c.specs.declared.inserted.Inserted.{Inserted}
 use Rattle.mini_moka_c.specs.declared.inserted.Inserted.TheVariants.{Stored}
@@ -108,8 +107,8 @@ bytes_answered old new key value own now before after =
 
 -- and one of numbers
 pub numbers_answered : (old new : NumberCacheState) (key value : ℕ) (own : Option ℕ) (now : ℕ) (before after : Leaving ℕ ℕ) → before.inserted ≡ Stored
-    → IsInserted number_keys weighs_one old key value own now new → TellsInsert hears_leaving number_keys old now key value new before after
+    → IsInserted number_keys number_weighs old key value own now new → TellsInsert hears_leaving number_keys old now key value new before after
     → after.inserted ≡ inserted_of (is_some (entry_at number_keys.eq key new.contents.entries))
 numbers_answered old new key value own now before after =
     insert_told number_keys nat_eq_equiv hears_leaving (λ (l : Leaving ℕ ℕ). l.inserted)
-    (λ a b key value cause is. ap (λ (l : Leaving ℕ ℕ). l.inserted) is) weighs_one old new key value own now before after
+    (λ a b key value cause is. ap (λ (l : Leaving ℕ ℕ). l.inserted) is) number_weighs old new key value own now before after

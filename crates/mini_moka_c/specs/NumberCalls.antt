@@ -1,6 +1,5 @@
 -- How a call on a handle of numbers tells what the call of its cache answers.
 use Rattle.std.specs.Prelude.{◌≡◌, ◌⊎◌, ℕ, is_some, Option, Some, None, IsSome}
-use Rattle.moka_common.specs.Weight.{unit_weighs}
 use Rattle.moka_unsync.specs.Contents.{entry_at}
 use Rattle.moka_unsync.specs.Insert.{IsInserted, IsRefused}
 use Rattle.moka_unsync.specs.Invalidate.{after_invalidate}
@@ -13,18 +12,14 @@ use Rattle.mini_moka_c.specs.declared.steps.Walk.TheVariants.{Ended}
 use Rattle.mini_moka_c.specs.declared.constants.TheConstants.{ABSENT, CHANGED, DONE, NO_TIME_TO_LIVE, OUT_OF_MEMORY}
 use Rattle.mini_moka_c.specs.Calls.{TellsTruth}
 use Rattle.mini_moka_c.specs.Inserted.{inserted_of, status_of}
-use Rattle.mini_moka_c.specs.NumberKeys.{number_keys}
+use Rattle.mini_moka_c.specs.NumberKeys.{number_keys, number_weighs}
 use Rattle.mini_moka_c.specs.NumberWalk.{met_after, next_pair, step_of, walk_after}
 use Rattle.mini_moka_c.specs.Removed.{queues}
 use Rattle.mini_moka_c.specs.Statistics.{with_get, with_insertion, with_remove, with_cleanup}
 
--- what a weigher of numbers answers
-abbrev pub weighs_one : {W : Type 0} → W → ℕ → ℕ → ℕ → W → Type 0
-weighs_one before key value weight after = unit_weighs key value weight × (after ≡ before)
-
--- the pair goes into the cache at a moment, each entry weighing the same, and is counted, and what leaves is queued
+-- the pair goes into the cache at a moment, and is counted, and what leaves is queued
 pub record IsNumberInsert (key value : ℕ) (own : Option ℕ) (now : ℕ) (old new : NumberCache) : Type 0 where
-  pub step : IsInserted number_keys weighs_one old.cache key value own now new.cache
+  pub step : IsInserted number_keys number_weighs old.cache key value own now new.cache
   pub counts : new.leaving.statistics ≡ with_insertion number_keys old.cache now key new.cache old.leaving.statistics
   pub removed : told.TellsInsert queues number_keys old.cache now key value new.cache old.leaving.removed new.leaving.removed
   pub walk : new.walk ≡ Ended

@@ -8,6 +8,7 @@ use Rattle.moka_unsync.specs.declared.shares.Shares.{Shares}
 use Rattle.mini_moka_c.specs.declared.cache.ByteCache.{ByteCache}
 use Rattle.mini_moka_c.specs.declared.steps.Walk.TheVariants.{Ended}
 use Rattle.mini_moka_c.specs.declared.weight.ByteWeight.TheVariants as weight
+use Rattle.mini_moka_c.specs.declared.weight.NumberWeight.TheVariants as number_weight
 use Rattle.mini_moka_c.specs.Removed.{empty_queue}
 use Rattle.mini_moka_c.specs.Statistics.{no_statistics}
 use Rattle.mini_moka_c.specs.declared.constants.TheConstants.{ALREADY_OPEN, DONE, OUT_OF_MEMORY, SHARE_TOO_LARGE, UNLIMITED, ZERO_DURATION}
@@ -37,15 +38,16 @@ settings_fault live idle window protected =
     if live == 0 || idle == 0 then Some ZERO_DURATION
     else (if nat_lt 100 window || nat_lt 100 protected then Some SHARE_TOO_LARGE else None)
 
--- the cache is a new one of the settings, with no entry and no weigher, and at least the capacity that is reserved; nothing was counted or
+-- the cache is a new one of the settings, with no entry and the weigher that is set, and at least the capacity that is reserved; nothing was counted or
 -- removed, and no walk was begun
 pub record IsNumbersNew (settings : NumberSettings) (numbers : NumberCache) : Type 0 where
   pub limits : HasLimits numbers.cache.settings.policy settings.capacity settings.time_to_live settings.time_to_idle
   pub new : numbers.cache ≡ new_cache (record {
     hash_state = numbers.cache.settings.hash_state;
     policy = numbers.cache.settings.policy;
-    is_weighed = false;
-  }) (shares_of settings.window_share settings.protected_share settings.is_adaptive) numbers.cache.weigher numbers.cache.capacity
+    is_weighed = settings.is_weighed;
+  }) (shares_of settings.window_share settings.protected_share settings.is_adaptive)
+      (if settings.is_weighed then number_weight.Value else number_weight.Entry) numbers.cache.capacity
   pub room : reserved settings.initial_capacity ≤ numbers.cache.capacity
   pub counts : numbers.leaving.statistics ≡ no_statistics
   pub removed : numbers.leaving.removed ≡ empty_queue settings.removed_room

@@ -23,7 +23,9 @@ use crate::inserted::Inserted;
 use crate::removed::{Leaving, Removed, RemovedQueue};
 use crate::statistics::Statistics;
 use crate::steps::{NumberStep, Walk};
+use crate::weight::NumberWeight;
 use moka_common::error::{BuildError, InsertError};
+use moka_common::hash::FixedState;
 use moka_common::time::Instant;
 use moka_unsync::builder::CacheBuilder;
 use moka_unsync::cache::Cache;
@@ -33,7 +35,7 @@ use std::time::Duration;
 /// A cache for one thread whose keys and values are numbers. No look-up asks for memory.
 #[derive(Drop)]
 pub struct NumberCache {
-    pub cache: Cache<u64, u64>,
+    pub cache: Cache<u64, u64, FixedState, NumberWeight>,
     /// Counts of the calls, and entries that left and aren't drained.
     pub leaving: Leaving<u64, u64>,
     walk: Walk,
@@ -44,7 +46,7 @@ pub struct NumberCache {
 impl NumberCache {
     /// Builds a cache with what is set, which queues what leaves. It is refused as `CacheBuilder::build` is.
     pub fn build(
-        builder: CacheBuilder<u64, u64>,
+        builder: CacheBuilder<u64, u64, NumberWeight>,
         removed: RemovedQueue<u64, u64>,
     ) -> Result<NumberCache, BuildError>
         ensures ok { IfOk result (λ made. IsBuilt builder made.cache.settings.hash_state made.cache) }
@@ -250,7 +252,12 @@ impl NumberCache {
 }
 
 /// Returns the next entry of a walk.
-fn next_of(cache: &Cache<u64, u64>, walk: Walk, walk_key: u64, now: Instant) -> Option<(u64, u64)>
+fn next_of(
+    cache: &Cache<u64, u64, FixedState, NumberWeight>,
+    walk: Walk,
+    walk_key: u64,
+    now: Instant,
+) -> Option<(u64, u64)>
     ensures { result ≡ next_pair walk cache.now walk_key now }
 {
     match walk {

@@ -10,7 +10,7 @@ use crate::number_cache::NumberCache;
 use crate::removed::RemovedQueue;
 use crate::seed::Seed;
 use crate::value::Value;
-use crate::weight::ByteWeight;
+use crate::weight::{ByteWeight, NumberWeight};
 use moka_unsync::builder::CacheBuilder;
 use std::alloc::Global;
 use std::time::Duration;
@@ -19,7 +19,7 @@ use std::time::Duration;
 #[repr(C)]
 #[derive(Clone, Copy)]
 pub struct NumberSettings {
-    /// The most entries.
+    /// The most entries, or in a weighed cache the largest weight of all.
     pub capacity: u64,
     /// How long an entry lives after it was last written.
     pub time_to_live: u64,
@@ -35,6 +35,8 @@ pub struct NumberSettings {
     pub protected_share: u8,
     /// True if the window adapts to the calls.
     pub is_adaptive: bool,
+    /// True if an entry weighs the upper 32 bits of its value and not 1.
+    pub is_weighed: bool,
 }
 
 /// The settings of a cache of bytes.
@@ -65,7 +67,15 @@ pub(crate) fn build_numbers(alloc: Global, settings: &NumberSettings) -> Option<
     let Ok(removed) = RemovedQueue::with_capacity(alloc, settings.removed_room) else {
         return None;
     };
-    let builder = CacheBuilder::default(alloc).initial_capacity(settings.initial_capacity);
+    let weight = if settings.is_weighed {
+        NumberWeight::Value
+    } else {
+        NumberWeight::Entry
+    };
+    let builder: CacheBuilder<u64, u64> = CacheBuilder::default(alloc);
+    let builder = builder
+        .initial_capacity(settings.initial_capacity)
+        .weigher_where(settings.is_weighed, weight);
     let builder = with_limits(
         builder,
         settings.capacity,
