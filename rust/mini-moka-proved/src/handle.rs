@@ -59,6 +59,7 @@ pub(crate) struct NumberSettings {
     pub(crate) window_share: u8,
     pub(crate) protected_share: u8,
     pub(crate) is_adaptive: bool,
+    pub(crate) is_weighed: bool,
 }
 
 // The header's `struct mini_moka_statistics`.

@@ -14,6 +14,8 @@ pub(crate) struct Limits {
     pub(crate) time_to_idle: Option<Duration>,
     pub(crate) initial_capacity: usize,
     pub(crate) removed_room: usize,
+    /// `true` if an entry of numbers weighs the upper half of its value.
+    pub(crate) is_weighed: bool,
     pub(crate) shares: Shares,
     pub(crate) clock: Source,
 }
@@ -33,6 +35,7 @@ impl Limits {
             window_share: shares.window,
             protected_share: shares.protected,
             is_adaptive: shares.is_adaptive,
+            is_weighed: self.is_weighed,
         })
     }
 

@@ -17,7 +17,8 @@ pub struct NumberBuilder {
 }
 
 impl NumberBuilder {
-    /// Sets the maximum number of entries.
+    /// Sets the maximum number of entries, or with [`weigh_values`](Self::weigh_values) the maximum
+    /// weight of all.
     pub fn max_capacity(mut self, max_capacity: u64) -> NumberBuilder {
         self.limits.max_capacity = Some(max_capacity);
         self
@@ -95,6 +96,25 @@ impl NumberBuilder {
         self
     }
 
+    /// Makes an entry weigh the upper 32 bits of its value, in place of 1. So a value has a weight
+    /// and 32 bits for the program.
+    ///
+    /// An update with a heavier value may leave the cache above its capacity, as
+    /// [`ByteBuilder::weigh_bytes`] says.
+    ///
+    /// ```
+    /// use mini_moka_proved::NumberCache;
+    ///
+    /// let mut cache = NumberCache::builder().max_capacity(1000).weigh_values().build()?;
+    /// cache.insert(7, (600 << 32) | 1).unwrap();
+    /// assert_eq!((cache.len(), cache.weighted_size()), (1, 600));
+    /// # Ok::<(), mini_moka_proved::BuildError>(())
+    /// ```
+    pub fn weigh_values(mut self) -> NumberBuilder {
+        self.limits.is_weighed = true;
+        self
+    }
+
     /// Builds the cache, and starts its clock.
     ///
     /// # Errors
@@ -110,6 +130,7 @@ impl fmt::Debug for NumberBuilder {
     fn fmt(&self, f: &mut fmt::Formatter<'_>) -> fmt::Result {
         self.limits
             .fields(&mut f.debug_struct("NumberBuilder"))
+            .field("weigh_values", &self.limits.is_weighed)
             .finish()
     }
 }

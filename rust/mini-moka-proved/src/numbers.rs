@@ -323,7 +323,8 @@ impl NumberCache {
         self.len() == 0
     }
 
-    /// Returns the weight of the entries, which is 1 each. It takes constant time.
+    /// Returns the weight of the entries, at most `u64::MAX`: their number, or the sum of their
+    /// weights with [`NumberBuilder::weigh_values`]. It takes constant time.
     pub fn weighted_size(&self) -> u64 {
         self.handle.weighted_size()
     }

@@ -5,9 +5,12 @@
 //! table has that number, the key gets the next one of a fixed sequence, and is listed in
 //! `displaced`. So each key has a number of its own, whatever the hashes are.
 //!
+//! In a weighed cache the upper half of the number's value is the entry's weight, and the lower half
+//! its slot.
+//!
 //! A table calls no code of the user but `==` of keys and a predicate, both before it changes
-//! anything, and the change of a value, last. It drops no key and no value: what leaves is in `left`, or is returned. So its owner
-//! can release a lock first.
+//! anything, and the change of a value that it has found. It drops no key and no value: what leaves is
+//! in `left`, or is returned. So its owner can release a lock first.
 
 use crate::clock::nanoseconds;
 use crate::error::{BuildError, OutOfMemory, TimedInsertError};
@@ -20,7 +23,7 @@ use std::time::Duration;
 
 /// The largest queue of the library's removed entries. A call removes at most 100 entries by their
 /// time to live, 100 of each of three lists by their time to idle, 100 above the capacity, and a few
-/// for a new entry.
+/// for a new entry. Only a heavy new entry may evict more than are queued: then `find_lost` finds them.
 const MOST_LEFT: u64 = 1024;
 
 /// The entries of a cache.
@@ -34,6 +37,18 @@ pub(crate) struct Table<K, V> {
     /// The entries that left, in this order, until the owner takes them.
     pub(crate) left: VecDeque<Left<K, V>>,
     expires: bool,
+    is_weighed: bool,
+    capacity: u64,
+}
+
+/// How an entry is written.
+#[derive(Clone, Copy)]
+pub(crate) struct Write {
+    /// What it weighs, in a weighed cache.
+    pub(crate) weight: u32,
+    /// Its own time to live, if it has one.
+    pub(crate) own: Option<Duration>,
+    pub(crate) now: u64,
 }
 
 enum Slot<K, V> {
@@ -110,8 +125,12 @@ fn next_number(number: u64) -> u64 {
 impl<K, V> Table<K, V> {
     pub(crate) fn open(limits: &Limits) -> Result<Table<K, V>, BuildError> {
         let mut settings = limits.settings()?;
-        // All entries, the new one and the old value of an update.
-        settings.removed_room = settings.capacity.saturating_add(2).min(MOST_LEFT) as usize;
+        // All entries, the new one and the old value of an update. Those of weight 0 have no limit.
+        let most = match limits.is_weighed {
+            true => MOST_LEFT,
+            false => settings.capacity.saturating_add(2).min(MOST_LEFT),
+        };
+        settings.removed_room = most as usize;
         let mut slots = Vec::new();
         if settings.initial_capacity > 0 {
             // A new entry is stored before another one leaves for it.
@@ -125,6 +144,8 @@ impl<K, V> Table<K, V> {
             displaced: HashMap::new(),
             left: VecDeque::new(),
             expires: limits.has_duration(),
+            is_weighed: limits.is_weighed,
+            capacity: settings.capacity,
         })
     }
 
@@ -136,7 +157,7 @@ impl<K, V> Table<K, V> {
     {
         let number = self.find(key, hash, now).number();
         let slot = self.numbers.get(number, now);
-        self.drain_expired();
+        self.drain_removed();
         slot.map(|slot| slot as u32)
     }
 
@@ -160,7 +181,7 @@ impl<K, V> Table<K, V> {
     {
         let number = self.find(key, hash, now).number();
         let found = self.numbers.contains(number, now);
-        self.drain_expired();
+        self.drain_removed();
         found
     }
 
@@ -170,33 +191,22 @@ impl<K, V> Table<K, V> {
         &mut self,
         entry: &mut Option<(K, V)>,
         hash: u64,
-        now: u64,
-    ) -> Result<Done<K, V>, OutOfMemory>
-    where
-        K: Eq,
-    {
-        let done = self.insert_for(entry, hash, None, now);
-        done.map_err(|_| OutOfMemory)
-    }
-
-    /// Inserts the entry as `insert` does, with its own time to live if it has one.
-    pub(crate) fn insert_for(
-        &mut self,
-        entry: &mut Option<(K, V)>,
-        hash: u64,
-        own: Option<Duration>,
-        now: u64,
+        write: Write,
     ) -> Result<Done<K, V>, TimedInsertError>
     where
         K: Eq,
     {
         let found = match &*entry {
-            Some((key, _)) => self.find(key, hash, now),
+            Some((key, _)) => self.find(key, hash, write.now),
             None => unreachable!("there is an entry to insert"),
         };
         match found {
-            Found::Here { number, slot } => self.update(entry, number, slot, own, now),
-            Found::Nowhere { number } => self.insert_new(entry, number, hash, own, now),
+            Found::Here { number, slot } if self.settle(number, write.now) => {
+                self.update(entry, number, slot, write)
+            }
+            Found::Here { number, .. } | Found::Nowhere { number } => {
+                self.insert_new(entry, number, hash, write)
+            }
         }
     }
 
@@ -205,10 +215,9 @@ impl<K, V> Table<K, V> {
         entry: &mut Option<(K, V)>,
         number: u64,
         slot: u32,
-        own: Option<Duration>,
-        now: u64,
+        write: Write,
     ) -> Result<Done<K, V>, TimedInsertError> {
-        self.put(number, slot, own, now)?;
+        self.put(number, slot, write)?;
         let (key, value) = taken(entry);
         let old = mem::replace(&mut self.filled_mut(slot).value, value);
         self.drain();
@@ -220,11 +229,10 @@ impl<K, V> Table<K, V> {
         entry: &mut Option<(K, V)>,
         number: u64,
         hash: u64,
-        own: Option<Duration>,
-        now: u64,
+        write: Write,
     ) -> Result<Done<K, V>, TimedInsertError> {
         let slot = self.place(entry, number, hash)?;
-        let inserted = self.put(number, slot, own, now);
+        let inserted = self.put(number, slot, write);
         let done = match inserted {
             Ok(Inserted::Stored) => Ok(Done::New(slot)),
             Ok(Inserted::Rejected) => {
@@ -241,31 +249,40 @@ impl<K, V> Table<K, V> {
         done
     }
 
-    /// Inserts a slot under its number, with its own time to live if it has one.
-    fn put(
-        &self,
-        number: u64,
-        slot: u32,
-        own: Option<Duration>,
-        now: u64,
-    ) -> Result<Inserted, TimedInsertError> {
-        match own {
-            None => Ok(self.numbers.insert(number, slot.into(), now)?),
+    /// Evicts what is above the capacity, so that a write of an entry does not evict that entry first.
+    /// Returns `false` if it was evicted. Only in a weighed cache entries can be above the capacity.
+    fn settle(&mut self, number: u64, now: u64) -> bool {
+        while self.is_weighed && self.numbers.weighted_size() > self.capacity {
+            let is_there = self.numbers.contains(number, now);
+            self.drain();
+            if !is_there {
+                return false;
+            }
+        }
+        true
+    }
+
+    /// Inserts a slot under its number.
+    fn put(&self, number: u64, slot: u32, write: Write) -> Result<Inserted, TimedInsertError> {
+        let value = u64::from(write.weight) << 32 | u64::from(slot);
+        match write.own {
+            None => Ok(self.numbers.insert(number, value, write.now)?),
             Some(own) => self
                 .numbers
-                .insert_for(number, slot.into(), nanoseconds(own), now),
+                .insert_for(number, value, nanoseconds(own), write.now),
         }
     }
 
     /// Changes the value of the key's entry, and returns `true`, or `false` if the key has no unexpired
-    /// entry. It is a write and an access, as an insert of the changed value.
+    /// entry. It is a write and an access, as an insert of the changed value. The change returns what
+    /// the entry weighs then.
     pub(crate) fn modify<Q>(
         &mut self,
         key: &Q,
         hash: u64,
         now: u64,
-        change: impl FnOnce(&mut V),
-    ) -> Result<bool, OutOfMemory>
+        change: impl FnOnce(&K, &mut V) -> u32,
+    ) -> Result<bool, TimedInsertError>
     where
         K: Borrow<Q>,
         Q: Eq + ?Sized,
@@ -273,9 +290,14 @@ impl<K, V> Table<K, V> {
         let Found::Here { number, slot } = self.find(key, hash, now) else {
             return Ok(false);
         };
-        self.numbers.insert(number, slot.into(), now)?;
+        if !self.settle(number, now) {
+            return Ok(false);
+        }
+        let Filled { key, value, .. } = self.filled_mut(slot);
+        let weight = change(key, value);
+        let own = None;
+        self.put(number, slot, Write { weight, own, now })?;
         self.drain();
-        change(&mut self.filled_mut(slot).value);
         Ok(true)
     }
 
@@ -365,6 +387,10 @@ impl<K, V> Table<K, V> {
     pub(crate) fn len(&self) -> usize {
         // A cache has at most 2,000,000,000 entries.
         self.numbers.len() as usize
+    }
+
+    pub(crate) fn weighted_size(&self) -> u64 {
+        self.numbers.weighted_size()
     }
 
     pub(crate) fn window_capacity(&self) -> u64 {
@@ -493,21 +519,60 @@ impl<K, V> Table<K, V> {
         }
     }
 
-    /// Drains what a call removed that can only remove expired entries.
-    fn drain_expired(&mut self) {
-        if self.expires {
+    /// Drains what a call removed that only removes expired entries and those above the capacity.
+    fn drain_removed(&mut self) {
+        if self.expires || self.is_weighed {
             self.drain();
         }
     }
 
     /// Moves the entries that the proved cache has removed out of their slots.
     fn drain(&mut self) {
+        let drained = self.drain_queue();
+        if drained >= MOST_LEFT && self.is_weighed {
+            self.find_lost();
+        }
+    }
+
+    /// Moves the entries of the queue out of their slots, and counts them.
+    fn drain_queue(&mut self) -> u64 {
+        let mut drained = 0;
         while let Some(removed) = self.numbers.drain() {
+            drained += 1;
             // The caller of an update has the old value, and that of an insert the rejected entry.
             if !matches!(removed.cause, Cause::Replaced | Cause::Rejected) {
-                let Filled { key, value, .. } = self.vacate(removed.value as u32);
-                let cause = removed.cause;
-                self.left.push_back(Left { key, value, cause });
+                self.take_out(removed.value as u32, removed.cause);
+            }
+        }
+        drained
+    }
+
+    /// Moves an entry that left out of its slot.
+    fn take_out(&mut self, slot: u32, cause: Cause) {
+        let Filled { key, value, .. } = self.vacate(slot);
+        self.left.push_back(Left { key, value, cause });
+    }
+
+    /// Moves the entries out of their slots that left when the queue was full. They were evicted: what
+    /// leaves for another cause in the same call is queued before.
+    #[cold]
+    fn find_lost(&mut self) {
+        for slot in 0..self.slots.len() as u32 {
+            let number = match self.slots[slot as usize].filled() {
+                Some(filled) => filled.number,
+                None => continue,
+            };
+            // At moment 0 no entry is expired, but one with a time to live of 0 of its own.
+            match self.numbers.peek(number, 0) {
+                Some(value) if value as u32 == slot => continue,
+                Some(_) => {}
+                None => {
+                    self.numbers.invalidate(number, 0);
+                    self.drain_queue();
+                }
+            }
+            if self.slots[slot as usize].filled().is_some() {
+                self.take_out(slot, Cause::Size);
             }
         }
     }
@@ -588,10 +653,20 @@ mod tests {
         }
     }
 
+    /// A write of a value, which is weighed in a weighed cache.
+    fn at(value: u64, now: u64) -> Write {
+        let weight = (value % 7) as u32;
+        Write {
+            weight,
+            own: None,
+            now,
+        }
+    }
+
     /// Makes a pseudorandom call on a key.
     fn call(table: &mut Table<u64, u64>, random: u64, key: u64, hash: u64, now: u64) {
         match random % 16 {
-            0..=7 => drop(table.insert(&mut Some((key, random)), hash, now)),
+            0..=7 => drop(table.insert(&mut Some((key, random)), hash, at(random, now))),
             8 => drop(table.remove(&key, hash, now)),
             9 => table.invalidate(&key, hash, now),
             10 if random % 90 == 0 => table.clear(),
@@ -608,7 +683,9 @@ mod tests {
             let capacity = [1, 5, 50, 100][seed as usize % 4];
             let divisor = [1, 2, 3, 7, 40][seed as usize % 5];
             let expires = seed % 3 == 0;
-            let mut table = Table::open(&limits(capacity, expires)).unwrap();
+            let mut limits = limits(capacity, expires);
+            limits.is_weighed = seed % 5 == 4;
+            let mut table = Table::open(&limits).unwrap();
             let (mut random, mut now) = (seed + 1, 0);
             for _ in 0..1500 {
                 // Pseudorandom numbers, by xorshift.
@@ -625,7 +702,7 @@ mod tests {
                 most_displaced = most_displaced.max(table.displaced.len());
             }
             // The slots of entries that left are filled again.
-            assert!(expires || table.slots.len() as u64 <= capacity + 1);
+            assert!(expires || limits.is_weighed || table.slots.len() as u64 <= capacity + 1);
         }
         assert!(most_displaced > 5);
     }
@@ -636,11 +713,44 @@ mod tests {
         short.time_to_live = Some(Duration::from_nanos(1));
         let mut table = Table::open(&short).unwrap();
         for key in 0..50 {
-            assert!(table.insert(&mut Some((key, key)), key, 0).is_ok());
+            assert!(table.insert(&mut Some((key, key)), key, at(key, 0)).is_ok());
         }
         assert_eq!(table.get(&0, 0, 1), None);
         assert_eq!((table.left.len(), table.len()), (50, 0));
         table.check();
+    }
+
+    #[test]
+    fn entries_that_the_queue_lost_leave_too() {
+        let mut limits = limits(5000, true);
+        limits.is_weighed = true;
+        let mut table = Table::open(&limits).unwrap();
+        for key in 0..1500 {
+            let insert = table.insert(&mut Some((key, key)), key, at(1, 0));
+            assert!(insert.is_ok());
+        }
+        // All leave in a call. Then an entry comes back, one that is expired at once, and one of
+        // another key that has the number of an entry that was lost.
+        table.numbers.clear();
+        let slot = table.place(&mut Some((9999, 0)), 1402, 1402).unwrap();
+        assert!(table.put(1400, 1400, at(1, 0)).is_ok());
+        assert!(table.put(1402, slot, at(1, 0)).is_ok());
+        let own = Some(Duration::ZERO);
+        assert!(table.put(1403, 1403, Write { own, ..at(1, 0) }).is_ok());
+        table.drain();
+        table.check();
+        assert_eq!(
+            (table.len(), table.pair(1400), table.pair(slot)),
+            (2, (&1400, &1400), (&9999, &0))
+        );
+        let causes = table.left.iter().map(|left| left.cause);
+        let queued = causes.clone().filter(|cause| *cause == Cause::Explicit);
+        assert_eq!(queued.count() as u64, MOST_LEFT);
+        assert_eq!(causes.filter(|cause| *cause == Cause::Expired).count(), 1);
+        let mut keys: Vec<u64> = table.left.iter().map(|left| left.key).collect();
+        keys.sort_unstable();
+        let gone: Vec<u64> = (0..1500).filter(|key| *key != 1400).collect();
+        assert_eq!(keys, gone);
     }
 
     #[test]
@@ -652,7 +762,7 @@ mod tests {
             let reserved = table.slots.capacity();
             assert!(reserved > initial_capacity && reserved < initial_capacity + 20);
             for key in 0..initial_capacity as u64 {
-                assert!(table.insert(&mut Some((key, key)), key, 0).is_ok());
+                assert!(table.insert(&mut Some((key, key)), key, at(key, 0)).is_ok());
             }
             assert_eq!(table.slots.capacity(), reserved);
             table.clear();

@@ -65,7 +65,7 @@ impl Policy {
         }
     }
 
-    /// Returns the maximum number of entries, if one is set.
+    /// Returns the maximum number of entries, or with a weigher their maximum weight, if one is set.
     pub fn max_capacity(&self) -> Option<u64> {
         self.max_capacity
     }
@@ -94,11 +94,18 @@ pub(crate) type Listener<K, V> = Box<dyn FnMut(K, V, Cause) + Send>;
 /// A listener of a cache that threads share.
 pub(crate) type SharedListener<K, V> = Box<dyn Fn(K, V, Cause) + Send + Sync>;
 
+/// A weigher of a cache for one thread.
+pub(crate) type Weigher<K, V> = Box<dyn FnMut(&K, &V) -> u32 + Send>;
+
+/// A weigher of a cache that threads share.
+pub(crate) type SharedWeigher<K, V> = Box<dyn Fn(&K, &V) -> u32 + Send + Sync>;
+
 /// Defines the setters that the builders of typed caches have in common. Their limits are in the
 /// field `limits`.
 macro_rules! limit_setters {
     () => {
-        /// Sets the maximum number of entries. With 0 the cache keeps nothing.
+        /// Sets the maximum number of entries, or with a weigher the maximum weight of all. With 0 the
+        /// cache keeps nothing, or only entries of weight 0.
         pub fn max_capacity(mut self, max_capacity: u64) -> Self {
             self.limits.max_capacity = Some(max_capacity);
             self

@@ -195,3 +195,15 @@ fn statistics_count_gets_and_inserts_and_what_leaves() {
     };
     assert_eq!(cache.statistics(), expected);
 }
+
+#[test]
+fn values_are_weighed_by_their_upper_half() {
+    let builder = NumberCache::builder().max_capacity(20).weigh_values();
+    assert!(format!("{builder:?}").contains("weigh_values: true"));
+    let mut cache = builder.build().unwrap();
+    cache.insert(1, (13 << 32) | 7).unwrap();
+    cache.insert(2, 7 << 32).unwrap();
+    assert_eq!(cache.insert(3, 1 << 32), Ok(Inserted::Rejected));
+    assert_eq!((cache.len(), cache.weighted_size()), (2, 20));
+    assert_eq!(cache.get(1), Some((13 << 32) | 7));
+}

@@ -119,7 +119,7 @@ fn a_builder_shows_its_limits_and_no_seed() {
         format!("{builder:?}"),
         "NumberBuilder { max_capacity: Some(10), time_to_live: None, time_to_idle: None, \
          initial_capacity: 0, removed_room: 0, window_share: 5, protected_share: 80, \
-         adaptive: true, clock: Coarse }"
+         adaptive: true, clock: Coarse, weigh_values: false }"
     );
     let clock = ManualClock::new();
     clock.set(2 * SECOND);

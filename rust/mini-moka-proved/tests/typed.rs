@@ -32,6 +32,10 @@ fn builders(random: &mut Random) -> (CacheBuilder<u64, u64>, NumberBuilder) {
     {
         (typed, numbers) = (typed.max_capacity(capacity), numbers.max_capacity(capacity));
     }
+    if random.below(3) == 0 {
+        let weigher = |_: &u64, value: &u64| (*value >> 32) as u32;
+        (typed, numbers) = (typed.weigher(weigher), numbers.weigh_values());
+    }
     if random.below(2) == 0 {
         (typed, numbers) = (typed.time_to_idle(ns(300)), numbers.time_to_idle(ns(300)));
     }
@@ -77,24 +81,31 @@ impl Pair {
     /// the listener doesn't get.
     fn call(&mut self, call: u64, key: u64, value: u64) -> Option<(u64, u64, Cause)> {
         let (typed, numbers) = (&mut self.typed, &mut self.numbers);
+        let capacity = typed.policy().max_capacity().unwrap_or(u64::MAX);
         match call {
             0..=5 => {
-                let before = numbers.peek(key);
+                let (before, updates) = (numbers.peek(key), numbers.statistics().updates);
                 let stored = numbers.insert(key, value).unwrap();
+                // A heavy cache may have evicted the entry first.
+                let replaced = before.filter(|_| numbers.statistics().updates > updates);
                 let insertion = typed.insert(key, value);
-                let wanted = match (stored, before) {
+                let wanted = match (stored, replaced) {
                     (mini_moka_proved::Inserted::Rejected, _) => Insertion::Rejected,
                     (_, Some(old)) => Insertion::Replaced(old),
                     (_, None) => Insertion::New,
                 };
                 assert_eq!(insertion, wanted);
-                return before.map(|old| (key, old, Cause::Replaced));
+                return replaced.map(|old| (key, old, Cause::Replaced));
             }
             6..=8 => assert_eq!(typed.get(&key).copied(), numbers.get(key)),
             9 => assert_eq!(typed.remove(&key), numbers.remove(key).unwrap()),
             10 => assert_eq!(typed.peek(&key).copied(), numbers.peek(key)),
             11 => assert_eq!(typed.contains_key(&key), numbers.contains_key(key)),
             13 => {
+                // What is above the capacity is evicted first.
+                while numbers.peek(key).is_some() && numbers.weighted_size() > capacity {
+                    numbers.contains_key(key);
+                }
                 let before = numbers.peek(key);
                 if before.is_some() {
                     numbers.insert(key, value).unwrap();
@@ -107,6 +118,10 @@ impl Pair {
                 return before.map(|old| (key, old, Cause::Replaced));
             }
             14 => {
+                // A typed cache may also evict in this call what is above the capacity.
+                while numbers.weighted_size() > capacity {
+                    assert_eq!(typed.contains_key(&key), numbers.contains_key(key));
+                }
                 numbers.remove_expired();
                 typed.remove_expired();
             }
@@ -160,9 +175,12 @@ fn without_collisions_it_is_the_cache_of_numbers() {
                 _ => random.below(300),
             };
             let call = random.below(17);
-            let returned = pair.call(call, key, value);
+            // A weighed cache weighs the upper half.
+            let weight = random.below(8);
+            let returned = pair.call(call, key, value | weight << 32);
             pair.compare_left(call, returned);
             assert_eq!(pair.typed.len(), pair.numbers.len());
+            assert_eq!(pair.typed.weighted_size(), pair.numbers.weighted_size());
             assert_eq!(pair.typed.window_capacity(), pair.numbers.window_capacity());
             if value % 100 == 0 {
                 let typed = pair.typed.iter().map(|(key, value)| (*key, *value));
@@ -589,6 +607,67 @@ fn a_walk_and_debug_output_show_the_live_entries() {
 }
 
 #[test]
+fn entries_are_weighed_by_key_and_value() {
+    let told = Told::new();
+    let mut cache = Cache::builder()
+        .max_capacity(20)
+        .weigher(|key: &u32, value: &Vec<u8>| key + value.len() as u32)
+        .eviction_listener(told.listener())
+        .build();
+    assert_eq!(cache.insert(1, vec![0; 9]), Insertion::New);
+    assert_eq!(cache.insert(2, vec![0; 8]), Insertion::New);
+    assert_eq!((cache.len(), cache.weighted_size()), (2, 20));
+    assert_eq!(cache.insert(3, Vec::new()), Insertion::Rejected);
+    assert_eq!(cache.insert(0, Vec::new()), Insertion::New);
+    assert_eq!(told.take(), [(3, Vec::new(), Cause::Rejected)]);
+    // A changed value is weighed again. It may be above the capacity until the next call.
+    assert!(cache.modify(&2, |value| value.push(0)));
+    assert_eq!((cache.len(), cache.weighted_size()), (3, 21));
+    assert!(told.take().is_empty());
+    assert_eq!(cache.get(&2), Some(&vec![0; 9]));
+    assert_eq!((cache.len(), cache.weighted_size()), (2, 11));
+    assert_eq!(told.take(), [(1, vec![0; 9], Cause::Size)]);
+    assert_eq!(cache.insert(2, vec![0; 1]), Insertion::Replaced(vec![0; 9]));
+    assert_eq!(cache.weighted_size(), 3);
+    assert_eq!(*cache.get_or_insert_with(4, || vec![0; 6]), vec![0; 6]);
+    assert_eq!(cache.weighted_size(), 13);
+    let rejected = cache.get_or_insert_with(5, || vec![0; 16]);
+    assert_eq!(rejected, ValueRef::Rejected(vec![0; 16]));
+    assert_eq!(cache.weighted_size(), 13);
+    assert_eq!(cache.policy().max_capacity(), Some(20));
+}
+
+#[test]
+fn an_entry_that_is_evicted_before_its_write_leaves_by_size() {
+    let told = Told::new();
+    let mut cache = Cache::builder()
+        .max_capacity(20)
+        .weigher(|_: &u32, value: &u32| *value)
+        .eviction_listener(told.listener())
+        .build();
+    for key in 0..4 {
+        assert_eq!(cache.insert(key, 5), Insertion::New);
+    }
+    assert_eq!(cache.insert(3, 12), Insertion::Replaced(5));
+    assert_eq!(cache.weighted_size(), 27);
+    // The first two entries are evicted before the first one is written.
+    assert!(!cache.modify(&0, |_| unreachable!()));
+    let evicted = [(0, 5, Cause::Size), (1, 5, Cause::Size)];
+    assert_eq!((told.take(), cache.weighted_size()), (evicted.into(), 17));
+    assert_eq!(cache.insert(2, 9), Insertion::Replaced(5));
+    assert_eq!(cache.weighted_size(), 21);
+    assert!(!cache.contains_key(&3));
+    assert_eq!(told.take(), [(3, 12, Cause::Size)]);
+    assert_eq!(cache.insert(1, 12), Insertion::Rejected);
+    assert_eq!(told.take(), [(1, 12, Cause::Rejected)]);
+    // An update that is heavier than the capacity leaves in the next call.
+    assert_eq!(cache.insert(2, 30), Insertion::Replaced(9));
+    assert_eq!(cache.insert(2, 1), Insertion::New);
+    assert_eq!(told.take(), [(2, 30, Cause::Size)]);
+    assert_eq!((cache.len(), cache.weighted_size()), (1, 1));
+}
+
+#[test]
 fn settings_reach_the_cache() {
     let second = SECOND;
     let builder = CacheBuilder::<u64, u64>::new(1000)
@@ -603,7 +682,7 @@ fn settings_reach_the_cache() {
         shown,
         "CacheBuilder { max_capacity: Some(1000), time_to_live: Some(3s), time_to_idle: Some(2s), \
          initial_capacity: 70, removed_room: 0, window_share: 20, protected_share: 30, \
-         adaptive: false, clock: Coarse, has_listener: false }"
+         adaptive: false, clock: Coarse, has_listener: false, has_weigher: false }"
     );
     let cache = builder.build();
     let policy = cache.policy();
@@ -615,7 +694,9 @@ fn settings_reach_the_cache() {
     assert!(format!("{adaptive:?}").contains("protected_share: 80, adaptive: true"));
     assert_eq!(adaptive.build().window_capacity(), 5);
     let heard = CacheBuilder::<u64, u64>::default().eviction_listener(|_, _, _| ());
-    assert!(format!("{heard:?}").contains("has_listener: true"));
+    assert!(format!("{heard:?}").contains("has_listener: true, has_weigher: false"));
+    let weighed = CacheBuilder::<u64, u64>::default().weigher(|_, _| 2);
+    assert!(format!("{weighed:?}").contains("has_listener: false, has_weigher: true"));
     assert_eq!(heard.build().policy().max_capacity(), None);
 }
 

@@ -1,5 +1,5 @@
 //! Tests that a typed cache loses nothing if the program's code panics: `Eq` and `Hash` of keys, the
-//! drop of a value, `make`, a predicate and a listener.
+//! drop of a value, `make`, a predicate, a weigher and a listener.
 
 mod common;
 
@@ -81,9 +81,17 @@ impl Tried {
         // The listener's steps come after it has the entry.
         let listener = |_: Key, _: Value, _: Cause| step();
         let builder = Cache::builder().max_capacity([5, 30, 150][random.below(3) as usize]);
+        let weigher = |_: &Key, value: &Value| {
+            step();
+            (value.0 % 3) as u32
+        };
+        let builder = match random.below(2) {
+            0 => builder.eviction_listener(listener),
+            _ => builder,
+        };
         Tried {
             cache: match random.below(2) {
-                0 => builder.eviction_listener(listener),
+                0 => builder.weigher(weigher),
                 _ => builder,
             }
             .build_with_hasher(Remainder([0, 1, 3, 7][random.below(4) as usize])),

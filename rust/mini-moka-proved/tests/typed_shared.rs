@@ -652,7 +652,7 @@ fn settings_reach_the_segments() {
     assert_eq!(segments(CacheBuilder::new(5000).segments(0)), 1);
     let shown = format!("{:?}", CacheBuilder::<u64, u64>::new(7).segments(3));
     assert!(
-        shown.ends_with("segments: Some(3), has_listener: false }"),
+        shown.ends_with("segments: Some(3), has_listener: false, has_weigher: false }"),
         "{shown}"
     );
     let cache = builder.build();
@@ -724,4 +724,74 @@ fn expired_entries_leave_all_segments() {
     told.sort_by_key(|entry| entry.0);
     let wanted = (0..5000).map(|key| (key, (), Cause::Expired));
     assert!(told.into_iter().eq(wanted));
+}
+
+#[test]
+fn shared_entries_are_weighed() {
+    let builder = Cache::<u64, String>::builder().weigher(|_, value| value.len() as u32);
+    assert!(format!("{builder:?}").contains("has_listener: false, has_weigher: true"));
+    let cache = builder.max_capacity(40).segments(2).build();
+    cache.insert(1, "seven".to_string());
+    assert_eq!(cache.get_with(2, || "eighty".to_string()), "eighty");
+    assert!(cache.modify(&1, |value| value.push_str("ty")));
+    assert_eq!((cache.len(), cache.weighted_size()), (2, 13));
+    // A segment has half of the capacity.
+    let long = "a value of 21 letters".to_string();
+    assert_eq!(cache.insert(3, long.clone()), Insertion::Rejected);
+    assert_eq!(cache.get_with(3, || long.clone()), long);
+    assert_eq!((cache.get(&3), cache.weighted_size()), (None, 13));
+    assert_eq!(
+        cache.insert(1, String::new()),
+        Insertion::Replaced("seventy".to_string())
+    );
+    assert_eq!((cache.len(), cache.weighted_size()), (2, 6));
+    // By default a segment has a capacity of 2^20 at least.
+    for (capacity, segments) in [(1000, 1), (3 << 20, 3), (1 << 30, 16)] {
+        let weighed = Cache::<u64, u64>::builder().weigher(|_, _| 1);
+        assert_eq!(weighed.max_capacity(capacity).build().segments(), segments);
+    }
+}
+
+#[test]
+fn a_weigher_may_call_the_cache_at_an_insert() {
+    returns(|| {
+        let asked: Arc<Mutex<Option<Cache<u64, u64>>>> = Arc::default();
+        let asking = Arc::clone(&asked);
+        let cache = Cache::builder()
+            .segments(1)
+            .weigher(move |_, _| {
+                let asked = asking.lock().unwrap();
+                asked.as_ref().map_or(0, |cache| cache.len() as u32 + 1)
+            })
+            .build();
+        *asked.lock().unwrap() = Some(cache.clone());
+        cache.insert(1, 1);
+        cache.insert(2, 2);
+        assert_eq!(cache.weighted_size(), 3);
+        *asked.lock().unwrap() = None;
+    });
+}
+
+#[test]
+fn a_weigher_that_panics_leaves_the_cache_as_it_was() {
+    let cache = Cache::builder()
+        .weigher(|_: &u64, value: &u64| {
+            assert!(*value < 100);
+            1
+        })
+        .build();
+    cache.insert(1, 1);
+    let insert = || cache.insert(2, 100);
+    assert!(catch_unwind(AssertUnwindSafe(insert)).is_err());
+    let make = || cache.get_with(3, || 100);
+    assert!(catch_unwind(AssertUnwindSafe(make)).is_err());
+    let change = || cache.modify(&1, |value| *value = 100);
+    assert!(catch_unwind(AssertUnwindSafe(change)).is_err());
+    assert_eq!(
+        (cache.get(&1), cache.get(&2), cache.get(&3)),
+        (Some(100), None, None)
+    );
+    // Nobody waits for the value that was not inserted.
+    assert_eq!(cache.get_with(3, || 3), 3);
+    assert_eq!((cache.len(), cache.weighted_size()), (2, 2));
 }

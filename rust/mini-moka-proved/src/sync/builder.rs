@@ -6,7 +6,7 @@ use crate::clock::{ManualClock, Source};
 use crate::error::BuildError;
 use crate::handle::Cause;
 use crate::limits::{Limits, Shares};
-use crate::typed::{limit_setters, SharedListener};
+use crate::typed::{limit_setters, SharedListener, SharedWeigher};
 use std::collections::hash_map::RandomState;
 use std::fmt;
 use std::hash::{BuildHasher, Hash};
@@ -14,6 +14,9 @@ use std::time::Duration;
 
 /// The least capacity of a segment, unless their number is set.
 const LEAST_SEGMENT: u64 = 100;
+
+/// The least capacity of a segment of weighed entries, unless their number is set.
+const LEAST_WEIGHED_SEGMENT: u64 = 1 << 20;
 
 /// Builds a [`Cache`] that threads share. A cache has only the limits that are set. Its segments
 /// have their parts of them, and each has a window of its own.
@@ -35,6 +38,7 @@ pub struct CacheBuilder<K, V> {
     limits: Limits,
     segments: Option<usize>,
     listener: Option<SharedListener<K, V>>,
+    weigher: Option<SharedWeigher<K, V>>,
 }
 
 impl<K: Hash + Eq, V> CacheBuilder<K, V> {
@@ -48,7 +52,7 @@ impl<K: Hash + Eq, V> CacheBuilder<K, V> {
     /// Sets the number of segments, clamped to the range from 1 to 65,536.
     ///
     /// By default a cache has 16 segments, or fewer, so that each has a capacity of at least 100
-    /// entries. A smaller cache has one segment.
+    /// entries, or with a weigher of 1,048,576. A smaller cache has one segment.
     pub fn segments(mut self, segments: usize) -> CacheBuilder<K, V> {
         self.segments = Some(segments);
         self
@@ -81,6 +85,32 @@ impl<K: Hash + Eq, V> CacheBuilder<K, V> {
         listener: impl Fn(K, V, Cause) + Send + Sync + 'static,
     ) -> CacheBuilder<K, V> {
         self.listener = Some(Box::new(listener));
+        self
+    }
+
+    /// Sets a weigher, as [`unsync::CacheBuilder::weigher`] does. A new entry that weighs more than its
+    /// segment's part of the capacity is rejected.
+    ///
+    /// It runs while no lock is held, but for that of [`Cache::modify`].
+    ///
+    /// [`unsync::CacheBuilder::weigher`]: crate::unsync::CacheBuilder::weigher
+    ///
+    /// ```
+    /// use mini_moka_proved::sync::Cache;
+    ///
+    /// let pages: Cache<&str, String> = Cache::builder()
+    ///     .max_capacity(1 << 20)
+    ///     .weigher(|_, page: &String| page.len().try_into().unwrap_or(u32::MAX))
+    ///     .build();
+    /// pages.insert("home", "welcome".to_string());
+    /// assert_eq!((pages.len(), pages.weighted_size()), (1, 7));
+    /// ```
+    pub fn weigher(
+        mut self,
+        weigher: impl Fn(&K, &V) -> u32 + Send + Sync + 'static,
+    ) -> CacheBuilder<K, V> {
+        self.limits.is_weighed = true;
+        self.weigher = Some(Box::new(weigher));
         self
     }
 
@@ -123,8 +153,12 @@ impl<K: Hash + Eq, V> CacheBuilder<K, V> {
         self,
         hasher: S,
     ) -> Result<Cache<K, V, S>, BuildError> {
-        let count = segments_of(self.segments, self.limits.max_capacity, LEAST_SEGMENT);
-        Cache::open(&self.limits, count, hasher, self.listener)
+        let least = match self.weigher {
+            Some(_) => LEAST_WEIGHED_SEGMENT,
+            None => LEAST_SEGMENT,
+        };
+        let count = segments_of(self.segments, self.limits.max_capacity, least);
+        Cache::open(&self.limits, count, hasher, self.listener, self.weigher)
     }
 }
 
@@ -134,6 +168,7 @@ impl<K, V> Default for CacheBuilder<K, V> {
             limits: Limits::default(),
             segments: None,
             listener: None,
+            weigher: None,
         }
     }
 }
@@ -144,6 +179,7 @@ impl<K, V> fmt::Debug for CacheBuilder<K, V> {
             .fields(&mut f.debug_struct("CacheBuilder"))
             .field("segments", &self.segments)
             .field("has_listener", &self.listener.is_some())
+            .field("has_weigher", &self.weigher.is_some())
             .finish()
     }
 }

@@ -9,8 +9,8 @@ use crate::clock::{nanoseconds, Clock};
 use crate::error::{BuildError, OutOfMemory, TimedInsertError};
 use crate::handle::Statistics;
 use crate::limits::Limits;
-use crate::table::{Done, Left, Table};
-use crate::typed::{hash, Insertion, Policy, SharedListener};
+use crate::table::{Done, Left, Table, Write};
+use crate::typed::{hash, Insertion, Policy, SharedListener, SharedWeigher};
 use std::borrow::Borrow;
 use std::collections::hash_map::RandomState;
 use std::collections::VecDeque;
@@ -60,9 +60,10 @@ use std::time::Duration;
 /// # Code of the program
 ///
 /// While a segment is locked, a call runs `Eq` of keys and `Clone` of values,
-/// [`iter`](Self::iter) also `Clone` of keys, and [`modify`](Self::modify) its change. They must not
-/// call the cache. All else runs while no lock is held, and may call it: `Hash`, other closures, the
-/// listener, and what is dropped.
+/// [`iter`](Self::iter) also `Clone` of keys, [`modify`](Self::modify) its change, and a weigher if it
+/// is called for that or for a value that [`get_with`](Self::get_with) made. They must not call the
+/// cache. All else runs while no lock is held, and may call it: `Hash`, other closures, the listener,
+/// and what is dropped.
 pub struct Cache<K, V, S = RandomState> {
     shared: Arc<Shared<K, V, S>>,
 }
@@ -73,6 +74,7 @@ struct Shared<K, V, S> {
     clock: Clock,
     policy: Policy,
     listener: Option<SharedListener<K, V>>,
+    weigher: Option<SharedWeigher<K, V>>,
 }
 
 /// A segment, which fills its cache lines, so that threads in different segments don't share one.
@@ -105,6 +107,7 @@ impl<K: Hash + Eq, V, S: BuildHasher> Cache<K, V, S> {
         count: usize,
         hasher: S,
         listener: Option<SharedListener<K, V>>,
+        weigher: Option<SharedWeigher<K, V>>,
     ) -> Result<Cache<K, V, S>, BuildError> {
         let mut segments = Vec::new();
         segments
@@ -125,6 +128,7 @@ impl<K: Hash + Eq, V, S: BuildHasher> Cache<K, V, S> {
             clock: limits.clock(),
             policy: Policy::of(limits),
             listener,
+            weigher,
         };
         Ok(Cache {
             shared: Arc::new(shared),
@@ -212,11 +216,13 @@ impl<K: Hash + Eq, V, S: BuildHasher> Cache<K, V, S> {
         own: Option<Duration>,
     ) -> Result<Insertion<V>, TimedInsertError> {
         let hash = self.hash(&key);
+        let weight = self.weigh(&key, &value);
         // What stays in it, and the key of an update, is dropped once the segment is unlocked.
         let mut entry = Some((key, value));
         let mut spare = None;
         self.visit(hash, |state, now| {
-            Ok(match state.table.insert_for(&mut entry, hash, own, now)? {
+            let write = Write { weight, own, now };
+            Ok(match state.table.insert(&mut entry, hash, write)? {
                 Done::New(_) => Insertion::New,
                 Done::Replaced(_, key, old) => {
                     spare = Some(key);
@@ -244,7 +250,10 @@ impl<K: Hash + Eq, V, S: BuildHasher> Cache<K, V, S> {
     {
         let hash = self.hash(key);
         match self.visit(hash, |state, now| {
-            state.table.modify(key, hash, now, change)
+            state.table.modify(key, hash, now, |key, value| {
+                change(value);
+                self.weigh(key, value)
+            })
         }) {
             Ok(modified) => modified,
             Err(error) => panic!("{error}"),
@@ -394,7 +403,12 @@ impl<K: Hash + Eq, V, S: BuildHasher> Cache<K, V, S> {
         self.visit(hash, |state, now| {
             let key = state.makings.remove(making);
             entry = key.and_then(|key| value.take().map(|value| (key, value)));
-            let done = state.table.insert(&mut entry, hash, now);
+            let weight = entry
+                .as_ref()
+                .map_or(0, |(key, value)| self.weigh(key, value));
+            let own = None;
+            let write = Write { weight, own, now };
+            let done = state.table.insert(&mut entry, hash, write);
             match done {
                 Ok(Done::Replaced(_, key, old)) => {
                     state.table.left.push_back(Left::replaced(key, old));
@@ -402,7 +416,7 @@ impl<K: Hash + Eq, V, S: BuildHasher> Cache<K, V, S> {
                 Ok(Done::Rejected(key, value)) => {
                     state.table.left.push_back(Left::rejected(key, value));
                 }
-                Ok(Done::New(_)) | Err(OutOfMemory) => {}
+                Ok(Done::New(_)) | Err(_) => {}
             }
         });
     }
@@ -430,6 +444,12 @@ impl<K: Hash + Eq, V, S: BuildHasher> Cache<K, V, S> {
 
     fn hash<Q: Hash + ?Sized>(&self, key: &Q) -> u64 {
         hash(&self.shared.hasher, key)
+    }
+
+    /// Weighs an entry. Without a weigher the table ignores its weight.
+    fn weigh(&self, key: &K, value: &V) -> u32 {
+        let weigher = self.shared.weigher.as_ref();
+        weigher.map_or(0, |weigher| weigher(key, value))
     }
 }
 
@@ -488,12 +508,13 @@ impl<K, V, S> Cache<K, V, S> {
         self.len() as u64
     }
 
-    /// Returns the weight of the entries, which is 1 each.
+    /// Returns the weight of the entries, at most `u64::MAX`. Without a weigher it is their number.
     pub fn weighted_size(&self) -> u64 {
-        self.entry_count()
+        self.tables(Table::weighted_size)
+            .fold(0, u64::saturating_add)
     }
 
-    /// Returns the number of entries that the windows of all segments may have now, at most
+    /// Returns the weight that the windows of all segments may have now, at most
     /// `u64::MAX`.
     pub fn window_capacity(&self) -> u64 {
         self.tables(Table::window_capacity)

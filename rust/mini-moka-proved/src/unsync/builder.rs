@@ -5,7 +5,7 @@ use crate::clock::{ManualClock, Source};
 use crate::error::BuildError;
 use crate::handle::Cause;
 use crate::limits::{Limits, Shares};
-use crate::typed::{limit_setters, Listener};
+use crate::typed::{limit_setters, Listener, Weigher};
 use std::collections::hash_map::RandomState;
 use std::fmt;
 use std::hash::{BuildHasher, Hash};
@@ -28,6 +28,7 @@ use std::time::Duration;
 pub struct CacheBuilder<K, V> {
     limits: Limits,
     listener: Option<Listener<K, V>>,
+    weigher: Option<Weigher<K, V>>,
 }
 
 impl<K: Hash + Eq, V> CacheBuilder<K, V> {
@@ -64,6 +65,30 @@ impl<K: Hash + Eq, V> CacheBuilder<K, V> {
         listener: impl FnMut(K, V, Cause) + Send + 'static,
     ) -> CacheBuilder<K, V> {
         self.listener = Some(Box::new(listener));
+        self
+    }
+
+    /// Sets a weigher, which returns what an entry weighs: any unit that the capacity has too. Without
+    /// one each entry weighs 1.
+    ///
+    /// It is called once for each value that is inserted or changed.
+    ///
+    /// ```
+    /// use mini_moka_proved::Cache;
+    ///
+    /// let mut pages: Cache<&str, String> = Cache::builder()
+    ///     .max_capacity(1 << 20)
+    ///     .weigher(|_, page: &String| page.len().try_into().unwrap_or(u32::MAX))
+    ///     .build();
+    /// pages.insert("home", "welcome".to_string());
+    /// assert_eq!((pages.len(), pages.weighted_size()), (1, 7));
+    /// ```
+    pub fn weigher(
+        mut self,
+        weigher: impl FnMut(&K, &V) -> u32 + Send + 'static,
+    ) -> CacheBuilder<K, V> {
+        self.limits.is_weighed = true;
+        self.weigher = Some(Box::new(weigher));
         self
     }
 
@@ -106,7 +131,7 @@ impl<K: Hash + Eq, V> CacheBuilder<K, V> {
         self,
         hasher: S,
     ) -> Result<Cache<K, V, S>, BuildError> {
-        Cache::open(&self.limits, hasher, self.listener)
+        Cache::open(&self.limits, hasher, self.listener, self.weigher)
     }
 }
 
@@ -115,6 +140,7 @@ impl<K, V> Default for CacheBuilder<K, V> {
         CacheBuilder {
             limits: Limits::default(),
             listener: None,
+            weigher: None,
         }
     }
 }
@@ -124,6 +150,7 @@ impl<K, V> fmt::Debug for CacheBuilder<K, V> {
         self.limits
             .fields(&mut f.debug_struct("CacheBuilder"))
             .field("has_listener", &self.listener.is_some())
+            .field("has_weigher", &self.weigher.is_some())
             .finish()
     }
 }

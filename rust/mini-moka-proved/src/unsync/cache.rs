@@ -5,8 +5,8 @@ use crate::clock::{nanoseconds, Clock};
 use crate::error::{BuildError, OutOfMemory, TimedInsertError};
 use crate::handle::Statistics;
 use crate::limits::Limits;
-use crate::table::{taken, Done, Left, Table};
-use crate::typed::{hash, Insertion, Listener, Policy, ValueRef};
+use crate::table::{taken, Done, Left, Table, Write};
+use crate::typed::{hash, Insertion, Listener, Policy, ValueRef, Weigher};
 use std::borrow::Borrow;
 use std::collections::hash_map::RandomState;
 use std::fmt;
@@ -36,8 +36,11 @@ use std::time::Duration;
 ///
 /// A full cache admits an entry only if its estimated frequency exceeds those of its victims, the
 /// least recently used entries. With a capacity of 100 or more, a hundredth of it is a window, where
-/// new entries begin. In a smaller cache a new entry may be rejected at once. Each entry counts as
-/// 1: there is no weigher.
+/// new entries begin. In a smaller cache a new entry may be rejected at once. Each entry weighs 1,
+/// unless the cache has a [weigher](CacheBuilder::weigher). An update with a heavier value may leave
+/// such a cache above its capacity. Then the next call that looks for expired entries first evicts up
+/// to 100 entries. An insert at a key that has an entry, and [`modify`](Self::modify), evict as many
+/// as it takes.
 ///
 /// # Moments
 ///
@@ -53,7 +56,7 @@ use std::time::Duration;
 ///
 /// # Panics of the program's code
 ///
-/// If `Eq` or `Hash` of a key, a predicate, `make` or a listener panics, the cache can still be used,
+/// If `Eq` or `Hash` of a key, a predicate, `make`, a weigher or a listener panics, the cache can still be used,
 /// and has lost no entry. If a value panics when it is dropped, the others that left in that call
 /// are dropped in the next one.
 ///
@@ -77,6 +80,7 @@ pub struct Cache<K, V, S = RandomState> {
     clock: Clock,
     policy: Policy,
     listener: Option<Listener<K, V>>,
+    weigher: Option<Weigher<K, V>>,
 }
 
 impl<K: Hash + Eq, V> Cache<K, V> {
@@ -96,6 +100,7 @@ impl<K: Hash + Eq, V, S: BuildHasher> Cache<K, V, S> {
         limits: &Limits,
         hasher: S,
         listener: Option<Listener<K, V>>,
+        weigher: Option<Weigher<K, V>>,
     ) -> Result<Cache<K, V, S>, BuildError> {
         Ok(Cache {
             table: Table::open(limits)?,
@@ -103,6 +108,7 @@ impl<K: Hash + Eq, V, S: BuildHasher> Cache<K, V, S> {
             clock: limits.clock(),
             policy: Policy::of(limits),
             listener,
+            weigher,
         })
     }
 
@@ -201,8 +207,8 @@ impl<K: Hash + Eq, V, S: BuildHasher> Cache<K, V, S> {
         own: Option<Duration>,
     ) -> Result<Insertion<V>, TimedInsertError> {
         let hash = self.hash(&key);
-        let mut entry = Some((key, value));
-        let done = self.table.insert_for(&mut entry, hash, own, self.moment());
+        let write = self.write(&key, &value, own);
+        let done = self.table.insert(&mut Some((key, value)), hash, write);
         let insertion = done.map(|done| match done {
             Done::New(_) => Insertion::New,
             Done::Replaced(_, _, old) => Insertion::Replaced(old),
@@ -219,7 +225,7 @@ impl<K: Hash + Eq, V, S: BuildHasher> Cache<K, V, S> {
     /// unexpired entry. Then `change` isn't called.
     ///
     /// It acts as an insert of the changed value, so the entry lives as long as a new one. The
-    /// listener doesn't get the value. If `change` panics, the value stays as it is then.
+    /// listener doesn't get the value. If `change` or the weigher panics, the value stays as it is then.
     ///
     /// ```
     /// use mini_moka_proved::Cache;
@@ -241,8 +247,12 @@ impl<K: Hash + Eq, V, S: BuildHasher> Cache<K, V, S> {
         K: Borrow<Q>,
         Q: Hash + Eq + ?Sized,
     {
-        let hash = self.hash(key);
-        let modified = self.table.modify(key, hash, self.moment(), change);
+        let (hash, now) = (self.hash(key), self.moment());
+        let weigher = &mut self.weigher;
+        let modified = self.table.modify(key, hash, now, |key, value| {
+            change(value);
+            weigh(weigher, key, value)
+        });
         self.tell();
         match modified {
             Ok(modified) => modified,
@@ -288,8 +298,10 @@ impl<K: Hash + Eq, V, S: BuildHasher> Cache<K, V, S> {
         if let Some(slot) = found {
             return Ok(ValueRef::Cached(self.table.pair(slot).1));
         }
-        let mut entry = Some((key, make()?));
-        let done = self.table.insert(&mut entry, hash, self.moment());
+        let value = make()?;
+        let write = self.write(&key, &value, None);
+        let mut entry = Some((key, value));
+        let done = self.table.insert(&mut entry, hash, write);
         let place = match done {
             Ok(Done::New(slot)) => Ok(slot),
             // The clock was set back, so an expired entry was live again.
@@ -298,7 +310,7 @@ impl<K: Hash + Eq, V, S: BuildHasher> Cache<K, V, S> {
                 Ok(slot)
             }
             Ok(Done::Rejected(_, value)) => Err(value),
-            Err(OutOfMemory) => Err(taken(&mut entry).1),
+            Err(_) => Err(taken(&mut entry).1),
         };
         self.tell();
         Ok(match place {
@@ -369,6 +381,13 @@ impl<K: Hash + Eq, V, S: BuildHasher> Cache<K, V, S> {
     fn hash<Q: Hash + ?Sized>(&self, key: &Q) -> u64 {
         hash(&self.hasher, key)
     }
+
+    /// Weighs an entry that is to be written now.
+    fn write(&mut self, key: &K, value: &V, own: Option<Duration>) -> Write {
+        let weight = weigh(&mut self.weigher, key, value);
+        let now = self.moment();
+        Write { weight, own, now }
+    }
 }
 
 impl<K, V, S> Cache<K, V, S> {
@@ -410,12 +429,12 @@ impl<K, V, S> Cache<K, V, S> {
         self.len() as u64
     }
 
-    /// Returns the weight of the entries, which is 1 each.
+    /// Returns the weight of the entries, at most `u64::MAX`. Without a weigher it is their number.
     pub fn weighted_size(&self) -> u64 {
-        self.entry_count()
+        self.table.weighted_size()
     }
 
-    /// Returns the number of entries that the window may have now, as
+    /// Returns the weight that the window may have now, as
     /// [`ByteCache::window_capacity`](crate::ByteCache::window_capacity) does.
     pub fn window_capacity(&self) -> u64 {
         self.table.window_capacity()
@@ -460,6 +479,11 @@ impl<K, V, S> Cache<K, V, S> {
             }
         }
     }
+}
+
+/// Weighs an entry. Without a weigher the table ignores its weight.
+fn weigh<K, V>(weigher: &mut Option<Weigher<K, V>>, key: &K, value: &V) -> u32 {
+    weigher.as_mut().map_or(0, |weigher| weigher(key, value))
 }
 
 /// The error of a `make` that doesn't fail.
