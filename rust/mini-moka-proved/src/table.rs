@@ -287,8 +287,9 @@ impl<K, V> Table<K, V> {
         K: Borrow<Q>,
         Q: Eq + ?Sized,
     {
-        let Found::Here { number, slot } = self.find(key, hash, now) else {
-            return Ok(false);
+        let (number, slot) = match self.find(key, hash, now) {
+            Found::Here { number, slot } => (number, slot),
+            Found::Nowhere { .. } => return Ok(false),
         };
         if !self.settle(number, now) {
             return Ok(false);
