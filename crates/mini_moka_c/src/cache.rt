@@ -95,8 +95,7 @@ impl ByteCache {
         self.insert_hashed(alloc, key, hash, value, None, now)
     }
 
-    /// Puts a copy of the value at a copy of the key, as `insert` does, with its own time to live, in a cache that has one too. Without that the error is
-    /// `NoTimeToLive`.
+    /// Puts a copy of the value at a copy of the key, as `insert` does, with its own time to live. If the cache has none, the error is `NoTimeToLive`.
     pub fn insert_for(
         &mut self,
         alloc: Global,
@@ -120,7 +119,7 @@ impl ByteCache {
         }
     }
 
-    /// Puts a copy of the value at a copy of the key, as `insert` does, by the key's hash, with its own time to live if one is given and the cache has one.
+    /// Puts a copy of the value at a copy of the key by the key's hash. With a time to live it works as `insert_for`, and without one as `insert`.
     pub(crate) fn insert_hashed(
         &mut self,
         alloc: Global,

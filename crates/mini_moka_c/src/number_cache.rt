@@ -101,7 +101,7 @@ impl NumberCache {
         }
     }
 
-    /// Puts the value at the key, as `insert` does, by the key's hash, with its own time to live if one is given and the cache has one.
+    /// Puts the value at the key by the key's hash. With a time to live it works as `insert_for`, and without one as `insert`.
     pub(crate) fn insert_hashed(
         &mut self,
         key: u64,
