@@ -155,10 +155,10 @@ static inline uint32_t mini_moka_segments_u64_open_one(struct mini_moka *segment
 }
 
 /*
- * Opens a cache of `count` segments. If that is 0, chooses up to 16, each with a capacity of at least 100 entries, or 2^20 if entries are weighed; a
- * smaller cache has one. Each segment has its part of the capacity, of initial_capacity and of removed_room, which is rounded up. Keys are never spread quite evenly, so
- * a segment may grow although the whole cache has fewer entries than initial_capacity, unless that is the capacity. With more segments than the capacity some
- * keep nothing. If a segment can't be opened, nothing stays open.
+ * Opens a cache of `count` segments. If that is 0, chooses up to 16, each with a capacity of at least 100 entries, or 2^20 if entries are weighed; a smaller
+ * cache has one. Each segment has its part of the capacity, of initial_capacity and of removed_room, which is rounded up. Keys are never spread quite evenly,
+ * so a segment may grow although the whole cache has fewer entries than initial_capacity, unless that is the capacity. With more segments than the capacity
+ * some keep nothing. If a segment can't be opened, nothing stays open.
  */
 static inline uint32_t mini_moka_segments_open(struct mini_moka_segments *all, const struct mini_moka_settings *settings, size_t count) {
     return mini_moka_segments_open_all(all, settings, count, mini_moka_open);

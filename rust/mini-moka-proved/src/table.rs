@@ -41,7 +41,7 @@ pub(crate) struct Table<K, V> {
     capacity: u64,
 }
 
-/// How an entry is written.
+/// The weight, the time to live and the moment of a write.
 #[derive(Clone, Copy)]
 pub(crate) struct Write {
     /// What it weighs, in a weighed cache.

@@ -91,7 +91,8 @@ impl<K: Hash + Eq, V> CacheBuilder<K, V> {
     /// Sets a weigher, as [`unsync::CacheBuilder::weigher`] does. A new entry that weighs more than its
     /// segment's part of the capacity is rejected.
     ///
-    /// It runs while no lock is held, but for that of [`Cache::modify`].
+    /// It runs while no lock is held, except for [`Cache::modify`] and for a value that
+    /// [`Cache::get_with`] made: then it must not call the cache, which would wait for itself.
     ///
     /// [`unsync::CacheBuilder::weigher`]: crate::unsync::CacheBuilder::weigher
     ///

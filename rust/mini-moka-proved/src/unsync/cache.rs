@@ -56,8 +56,8 @@ use std::time::Duration;
 ///
 /// # Panics of the program's code
 ///
-/// If `Eq` or `Hash` of a key, a predicate, `make`, a weigher or a listener panics, the cache can still be used,
-/// and has lost no entry. If a value panics when it is dropped, the others that left in that call
+/// If `Eq` or `Hash` of a key, a predicate, `make`, a weigher or a listener panics, the cache can
+/// still be used, and has lost no entry. If a value panics when it is dropped, the others that left in that call
 /// are dropped in the next one.
 ///
 /// # Threads
@@ -225,7 +225,8 @@ impl<K: Hash + Eq, V, S: BuildHasher> Cache<K, V, S> {
     /// unexpired entry. Then `change` isn't called.
     ///
     /// It acts as an insert of the changed value, so the entry lives as long as a new one. The
-    /// listener doesn't get the value. If `change` or the weigher panics, the value stays as it is then.
+    /// listener doesn't get the value. If `change` or the weigher panics, the value stays as it is
+    /// then.
     ///
     /// ```
     /// use mini_moka_proved::Cache;
