@@ -29,6 +29,10 @@ module _ (test : ℕ → Bool → Type 0) where
         | inr later ↦ none_passes ids s.1 id later
       ]
 
+  -- where there are no ids, none is found
+  pub finds_none : (ids : List ℕ) → ids ≡ [] → FindsFirst test ids None
+  finds_none ids none = subst (λ l. FindsFirst test l None) (sym none) refl
+
 module _ {T : Type 0} (test : T → Bool → Type 0) (nodes : List (ℕ × T)) where
   -- a search tests this of a node's element
   abbrev pub IsTested : ℕ → Bool → Type 0

@@ -1,6 +1,6 @@
 -- Lemmas on an index beside a list of nodes: what each change of the nodes leaves of it.
-use Rattle.std.proofs.Common.{◌≡◌, ◌<◌, ◌∙◌, ◌++◌, ◌∷◌, ℕ, Bool, true, false, cond, nat_eq, List, [], Option, Some}
-use Rattle.std.proofs.Common.{None, is_some, IsSome, refl, sym, ap, inl, inr, subst}
+use Rattle.std.proofs.Common.{◌≡◌, ◌<◌, ◌≤◌, ◌∙◌, ◌++◌, ◌∷◌, ℕ, Bool, true, false, cond, nat_eq, List, [], Option, Some}
+use Rattle.std.proofs.Common.{None, is_some, IsSome, refl, sym, ap, inl, inr, arith, subst}
 use Rattle.std.proofs.lemmas.Bool.{cases_Bool, cond_both, cond-true, cond-false, eqb-true, false≢true}
 use Rattle.std.proofs.lemmas.Cmp.{nat_eq_equiv}
 use Rattle.std.proofs.lemmas.List.{append_assoc}
@@ -9,7 +9,7 @@ use Rattle.std.specs.List.{IsDistinct, AllByRecursion}
 use Rattle.std.specs.Map.{lookup, remove_entry, keys_of}
 use Rattle.moka_list.specs.Nodes.{first_id, next_id}
 use Rattle.moka_list.specs.IdList.{is_listed}
-use Rattle.moka_list.specs.HashIndex.{HashIndex, candidates, is_candidate, Adds, Removes as Unlists}
+use Rattle.moka_list.specs.GrowingIndex.{GrowingIndex, candidates, is_candidate, Adds, KeepsAll, Removes as Unlists}
 use Rattle.moka_list.specs.Indexed.{IsIndexed}
 use Rattle.moka_list.proofs.ItemLemmas.{lookup-push}
 use Rattle.moka_list.proofs.IdLemmas.{lookup-removed, not_none, some_parts}
@@ -19,7 +19,7 @@ use Rattle.moka_list.proofs.WalkLemmas.{from_first, from_node, from_next, from_n
 
 module _ {T : Type 0} (hash_of : T → ℕ) where
   -- an index without ids is that of no nodes
-  pub IsIndexed-none : (index : HashIndex) → ((hash : ℕ) → candidates index hash ≡ []) → IsIndexed hash_of [] index
+  pub IsIndexed-none : (index : GrowingIndex) → ((hash : ℕ) → candidates index hash ≡ []) → IsIndexed hash_of [] index
   IsIndexed-none index empty =
       record {
         listed = λ id e h. not_none e (sym h);
@@ -27,7 +27,7 @@ module _ {T : Type 0} (hash_of : T → ℕ) where
         below = λ id h. absurd (false≢true h);
       }
 
-  module _ {nodes : List (ℕ × T)} {index : HashIndex} (s : IsIndexed hash_of nodes index) (id : ℕ) where
+  module _ {nodes : List (ℕ × T)} {index : GrowingIndex} (s : IsIndexed hash_of nodes index) (id : ℕ) where
     -- a node that is rewritten keeps its hash
     pub IsIndexed-rewrite : (n x : T) → lookup (nat_eq id) nodes ≡ Some n → hash_of x ≡ hash_of n → (moved : List (ℕ × T))
         → ((i : ℕ) → lookup (nat_eq i) moved ≡ cond (nat_eq id i) (Some x) (lookup (nat_eq i) nodes)) → IsIndexed hash_of moved index
@@ -56,7 +56,7 @@ module _ {T : Type 0} (hash_of : T → ℕ) where
             ]
 
     -- one that leaves is no candidate any more
-    pub IsIndexed-remove : IsDistinct nat_eq (keys_of nodes) → (new : HashIndex) → Unlists index id new
+    pub IsIndexed-remove : IsDistinct nat_eq (keys_of nodes) → (new : GrowingIndex) → Unlists index id new
         → IsIndexed hash_of (remove_entry (nat_eq id) nodes) new
     IsIndexed-remove once new step =
         record {
@@ -89,7 +89,7 @@ module _ {T : Type 0} (hash_of : T → ℕ) where
             ]
 
     -- a new one is a candidate of its hash
-    pub IsIndexed-enter : (e : T) → id < index.ids → (new : HashIndex) → Adds index id (hash_of e) new → (pushed : List (ℕ × T))
+    pub IsIndexed-enter : (e : T) → id < index.ids → (new : GrowingIndex) → Adds index id (hash_of e) new → (pushed : List (ℕ × T))
         → ((v : ℕ) → lookup (nat_eq v) pushed ≡ cond (nat_eq id v) (Some e) (lookup (nat_eq v) nodes)) → IsIndexed hash_of pushed new
     IsIndexed-enter e room new step pushed found =
         record {
@@ -117,65 +117,30 @@ module _ {T : Type 0} (hash_of : T → ℕ) where
         stands : (hash i : ℕ) → nat_eq id i ≡ false → is_candidate new hash i ≡ true → IsSome (lookup (nat_eq i) nodes)
         stands hash i other h = s.standing hash i (sym (step.others hash i other) ∙ h)
 
--- ---- all ids, one after another
+  -- the index may have more room, or another order
+  pub IsIndexed-kept : {nodes : List (ℕ × T)} {index : GrowingIndex} → IsIndexed hash_of nodes index → (new : GrowingIndex) → KeepsAll index new
+      → index.ids ≤ new.ids → IsIndexed hash_of nodes new
+  IsIndexed-kept s new kept more = record {
+    listed = λ id e h. kept (hash_of e) id ∙ s.listed id e h;
+    standing = λ hash id h. s.standing hash id (sym (kept hash id) ∙ h);
+    below = λ id h. let low = s.below id h in omega arith;
+  }
 
--- what stands in front of a node has another id
-apart_from : {X : Type 0} (done : List (ℕ × X)) (id : ℕ) (x : X) (rest : List (ℕ × X))
-    → IsDistinct nat_eq (keys_of (done ++ (id, x) ∷ rest)) → lookup (nat_eq id) done ≡ None
-apart_from [] id x rest once = refl
-apart_from (d ∷ done) id x rest once =
-    cond-false (nat_eq id d.0) _ _
-    (nat_eq_equiv.symm id d.0 ∙ at done (IsDistinct-head nat_eq d.0 (keys_of (done ++ (id, x) ∷ rest)) once))
-    ∙ apart_from done id x rest (IsDistinct-tail nat_eq d.0 (keys_of (done ++ (id, x) ∷ rest)) once)
-  where
-    at : (fs : List (ℕ × _)) → AllByRecursion (λ k. nat_eq d.0 k ≡ false) (keys_of (fs ++ (id, x) ∷ rest)) → nat_eq d.0 id ≡ false
-    at [] a = a.0
-    at (f ∷ fs) a = at fs a.1
-
-module _ {T : Type 0} (hash_of : T → ℕ) (nodes : List (ℕ × T)) where
-  -- the nodes before this one are in the index
-  pub record IsUpTo (here : Option ℕ) (index : HashIndex) : Type 0 where
-    pub done : List (ℕ × T)
-    pub parts : done ++ from_node here nodes ≡ nodes
-    pub indexed : IsIndexed hash_of done index
-
-  -- at first there are none
-  pub up_to_none : (here : Option ℕ) (index : HashIndex) → here ≡ first_id nodes → ((hash : ℕ) → candidates index hash ≡ [])
-      → IsUpTo here index
-  up_to_none here index is empty =
-      record { done = []; parts = ap (λ o. from_node o nodes) is ∙ from_first nodes; indexed = IsIndexed-none hash_of index empty }
-
-  -- and the next one with it
-  pub up_to_next : (id : ℕ) (e : T) (index new : HashIndex) → IsDistinct nat_eq (keys_of nodes) → lookup (nat_eq id) nodes ≡ Some e
-      → IsUpTo (Some id) index → id < index.ids → Adds index id (hash_of e) new → IsUpTo (next_id id nodes) new
-  up_to_next id e index new once stands s room step =
-      let parts : s.done ++ (id, e) ∷ from_node (next_id id nodes) nodes ≡ nodes =
-      ap (λ l. s.done ++ l) (sym (from_next id e nodes once stands)) ∙ s.parts in
-      record {
-        done = s.done ++ (id, e) ∷ [];
-        parts = append_assoc s.done ((id, e) ∷ []) (from_node (next_id id nodes) nodes) ∙ parts;
-        indexed =
-            IsIndexed-enter hash_of s.indexed id e room new step (s.done ++ (id, e) ∷ [])
-            (λ v. lookup-push v id e s.done
-            (apart_from s.done id e (from_node (next_id id nodes) nodes) (subst (λ l. IsDistinct nat_eq (keys_of l)) (sym parts) once)));
-      }
-
-  -- it isn't there yet
-  pub not_yet : (id : ℕ) (e : T) (index : HashIndex) → IsDistinct nat_eq (keys_of nodes) → lookup (nat_eq id) nodes ≡ Some e
-      → IsUpTo (Some id) index → (hash : ℕ) → is_candidate index hash id ≡ true → ⊥
-  not_yet id e index once stands s hash h =
-      let parts : s.done ++ (id, e) ∷ from_node (next_id id nodes) nodes ≡ nodes =
-      ap (λ l. s.done ++ l) (sym (from_next id e nodes once stands)) ∙ s.parts in
-      let absent =
-      apart_from s.done id e (from_node (next_id id nodes) nodes) (subst (λ l. IsDistinct nat_eq (keys_of l)) (sym parts) once) in
-      false≢true (sym (ap is_some absent) ∙ s.indexed.standing hash id h)
-
-  -- at the end all are in the index
-  pub up_to_end : (index : HashIndex) → IsUpTo None index → IsIndexed hash_of nodes index
-  up_to_end index s =
-      subst (λ l. IsIndexed hash_of l index)
-      (sym (append_nil s.done) ∙ (ap (λ l. s.done ++ l) (sym (from_none nodes)) ∙ s.parts)) s.indexed
-    where
-      append_nil : {X : Type 0} (xs : List X) → xs ++ [] ≡ xs
-      append_nil [] = refl
-      append_nil (x ∷ xs) = ap (λ l. x ∷ l) (append_nil xs)
+  -- a node that is added once more is where it was
+  pub IsIndexed-again : {nodes : List (ℕ × T)} {index : GrowingIndex} → IsIndexed hash_of nodes index → (id : ℕ) (e : T)
+      → lookup (nat_eq id) nodes ≡ Some e → (new : GrowingIndex) → Adds index id (hash_of e) new → IsIndexed hash_of nodes new
+  IsIndexed-again {nodes} {index} s id e stood new step = record {
+    listed = λ i y h. elim (cases_Bool (nat_eq id i)) [
+      | inl same ↦
+          let at : lookup (nat_eq id) nodes ≡ Some y = subst (λ j. lookup (nat_eq j) nodes ≡ Some y) (sym (eqb-true id i same)) h in
+          let is_e : e ≡ y = some_parts e y (sym stood ∙ at) in
+          subst (λ j. is_candidate new (hash_of y) j ≡ true) (eqb-true id i same)
+          (subst (λ z. is_candidate new (hash_of z) id ≡ true) is_e step.under)
+      | inr other ↦ step.others (hash_of y) i other ∙ s.listed i y h
+    ];
+    standing = λ hash i h. elim (cases_Bool (nat_eq id i)) [
+      | inl same ↦ subst (λ j. IsSome (lookup (nat_eq j) nodes)) (eqb-true id i same) (ap is_some stood)
+      | inr other ↦ s.standing hash i (sym (step.others hash i other) ∙ h)
+    ];
+    below = λ i h. subst (λ n. i < n) (sym step.ids) (s.below i h);
+  }

@@ -6,7 +6,7 @@ use Rattle.std.proofs.lemmas.List.{length_push}
 use Rattle.std.proofs.lemmas.Map.{keys-set_value}
 use Rattle.std.specs.List.{IsDistinct}
 use Rattle.std.specs.Map.{lookup, remove_entry, set_value, keys_of}
-use Rattle.moka_list.specs.HashIndex.{HashIndex, candidates, Adds, Removes as Unlists}
+use Rattle.moka_list.specs.GrowingIndex.{GrowingIndex, candidates, Adds, Removes as Unlists}
 use Rattle.moka_list.specs.Indexed.{IsIndexed, room_beside}
 use Rattle.moka_list.specs.Nodes.{moved_to_back}
 use Rattle.moka_list.proofs.IdLemmas.{IsDistinct-pushed, IsDistinct-removed, IsDistinct-rewritten, lookup-rewritten, moved-found}
@@ -15,14 +15,14 @@ use Rattle.moka_list.proofs.ItemLemmas.{distinct_from_apart, length-remove, look
 
 module _ {T : Type 0} (hash_of : T → ℕ) where
   -- no id comes twice, and the index goes with the nodes
-  abbrev pub IsSound : List (ℕ × T) → HashIndex → Type 0
+  abbrev pub IsSound : List (ℕ × T) → GrowingIndex → Type 0
   IsSound items index = IsDistinct nat_eq (keys_of items) × IsIndexed hash_of items index
 
   -- so it is of an empty list
-  pub sound-none : (index : HashIndex) → ((hash : ℕ) → candidates index hash ≡ []) → IsSound [] index
+  pub sound-none : (index : GrowingIndex) → ((hash : ℕ) → candidates index hash ≡ []) → IsSound [] index
   sound-none index empty = (distinct_from_apart {T = T} [] tt, IsIndexed-none hash_of index empty)
 
-  module _ {items : List (ℕ × T)} {index : HashIndex} (s : IsSound items index) (id : ℕ) where
+  module _ {items : List (ℕ × T)} {index : GrowingIndex} (s : IsSound items index) (id : ℕ) where
     -- a node goes to the back
     pub sound-moved : (e : T) → lookup (nat_eq id) items ≡ Some e → IsSound (moved_to_back id items) index
     sound-moved e stood = (
@@ -39,11 +39,11 @@ module _ {T : Type 0} (hash_of : T → ℕ) where
     )
 
     -- it leaves
-    pub sound-removed : (new : HashIndex) → Unlists index id new → IsSound (remove_entry (nat_eq id) items) new
+    pub sound-removed : (new : GrowingIndex) → Unlists index id new → IsSound (remove_entry (nat_eq id) items) new
     sound-removed new step = (IsDistinct-removed id items s.0, IsIndexed-remove hash_of s.1 id s.0 new step)
 
     -- one enters
-    pub sound-pushed : (e : T) (new : HashIndex) → lookup (nat_eq id) items ≡ None → id < index.ids → Adds index id (hash_of e) new
+    pub sound-pushed : (e : T) (new : GrowingIndex) → lookup (nat_eq id) items ≡ None → id < index.ids → Adds index id (hash_of e) new
         → IsSound (items ++ (id, e) ∷ []) new
     sound-pushed e new fresh below step = (
       IsDistinct-pushed id e items s.0 fresh,

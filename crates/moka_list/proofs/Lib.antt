@@ -16,5 +16,6 @@ pub mod PutLemmas
 pub mod FreeLemmas
 pub mod WayLemmas
 pub mod FindLemmas
+pub mod GrowingLemmas
 pub mod IndexLemmas
 pub mod IndexedListLemmas

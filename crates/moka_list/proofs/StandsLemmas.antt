@@ -434,13 +434,20 @@ under_candidate groups ids far hash cell probed under =
     (subst (λ t. is_among id (slots_of (group_at groups q) tag (min t FAR)) (group_at groups q).ids ≡ true) is_s
     (under_among groups hash cell probed.shaped under)))
 
+-- and is below the number that ids must be below
+pub candidate_below : (groups : List Group) (ids : ℕ) (far : Bool) (hash id : ℕ) → IsProbed groups ids far
+    → is_candidate (shown groups ids far) hash id ≡ true → id < ids
+candidate_below groups ids far hash id lies found =
+    let under = candidate_under groups ids far hash id lies.shaped found in subst (λ n. n < ids) under.2 (lies.below under.0 under.1.taken)
+
 -- ---- a table without ids
 
 pub record IsCleared (groups : List Group) (ids : ℕ) : Type 0 where
   pub lies : IsProbed groups ids false
   pub empty : (hash : ℕ) → candidates (shown groups ids false) hash ≡ []
 
-no_ids : (ids : List ℕ) → ((id : ℕ) → list_any (nat_eq id) ids ≡ true → ⊥) → ids ≡ []
+-- a list of which no id is one
+pub no_ids : (ids : List ℕ) → ((id : ℕ) → list_any (nat_eq id) ids ≡ true → ⊥) → ids ≡ []
 no_ids [] none = refl
 no_ids (id ∷ ids) none = absurd (none id (or_left (nat_eq id id) (list_any (nat_eq id) ids) (eq-eqb id id refl)))
 

@@ -50,7 +50,10 @@ impl<A: Allocator> HashIndex<A> {
 
     /// Returns the number that ids must be below to be added.
     pub fn ids(&self) -> usize
-        ensures { result ≡ self.now.ids }
+        ensures value { result ≡ self.now.ids }
+
+        // What holds of every index.
+        ensures below { (hash id : ℕ) → is_candidate self.now hash id ≡ true → id < result }
     {
         self.ids
     }
@@ -92,7 +95,19 @@ impl<A: Allocator> HashIndex<A> {
         self.candidates(hash).find(eq)
     }
 
+    /// Forgets all ids, and frees the memory.
+    pub fn clear(&mut self)
+        ensures empty { (hash : ℕ) → candidates self.new hash ≡ [] }
+        ensures ids { self.new.ids ≡ 0 }
+    {
+        self.groups.clear();
+        self.groups.shrink_to_fit();
+        self.ids = 0;
+        self.far = false;
+    }
+
     /// Begins a search: the ids that may have this hash.
+    #[inline(always)]
     pub fn candidates(&self, hash: u64) -> Candidates<'_>
         ensures { result ≡ candidates self.now hash }
     {
@@ -185,7 +200,7 @@ impl<'a> Candidates<'a> {
 
     /// Takes the next candidate.
     #[inline(always)]
-    fn next(&mut self) -> Option<usize>
+    pub(crate) fn next(&mut self) -> Option<usize>
         ensures { YieldsFirst (λ ids. ids) self.old result self.new }
     {
         while let Some(group) = self.groups.get(self.at) {

@@ -8,8 +8,8 @@ ghost use Rattle.moka_list.specs.IndexedList.{NonePasses, Passes};
 ghost use Rattle.moka_list.specs.Nodes.{IsIn, first_id, moved_to_back, next_id};
 
 use crate::chain::{Chain, NodeId};
-use crate::hash_index::HashIndex;
-use crate::indexing::index_all;
+use crate::growing_index::GrowingIndex;
+use crate::indexing::{make_room, move_some};
 use moka_common::error::OutOfMemory;
 use moka_common::hash::Hashed;
 use std::alloc::{AllocError, Allocator, Global};
@@ -21,7 +21,7 @@ use std::marker::Model;
 #[derive(Drop)]
 pub struct IndexedList<T: Hashed, A: Allocator = Global> {
     list: Chain<T, A>,
-    index: HashIndex<A>,
+    index: GrowingIndex<A>,
 }
 
 impl<T: Hashed, A: Allocator> Model for IndexedList<T, A> {
@@ -43,13 +43,13 @@ impl<T: Hashed, A: Allocator> Model for IndexedList<T, A> {
 }
 
 impl<T: Hashed, A: Allocator> IndexedList<T, A> {
-    /// Makes an empty list, which allocates nothing. It takes an allocator for its elements, one for their links and one for the index.
-    pub fn new(elements: A, links: A, index: A) -> Self
+    /// Makes an empty list, which allocates nothing. It takes an allocator for its elements, one for their links and two for the tables of its index.
+    pub fn new(elements: A, links: A, index: A, smaller: A) -> Self
         ensures { result ≡ record { items = []; room = 0; ids = 0 } }
     {
         IndexedList {
             list: Chain::new(elements, links),
-            index: HashIndex::new(index),
+            index: GrowingIndex::new(index, smaller),
         }
     }
 
@@ -110,11 +110,11 @@ impl<T: Hashed, A: Allocator> IndexedList<T, A> {
     {
         let (len, capacity) = (self.list.len(), self.list.capacity());
         let needed = len.saturating_add(additional);
-        index_all(&mut self.index, &self.list, capacity.max(needed))?;
+        make_room(&mut self.index, &self.list, capacity.max(needed))?;
         self.list.reserve_exact(additional)?;
 
         // More may have been reserved than was asked for.
-        index_all(&mut self.index, &self.list, self.list.capacity())
+        make_room(&mut self.index, &self.list, self.list.capacity())
     }
 
     /// Returns the node of an element of this hash that passes the test.
@@ -187,6 +187,7 @@ impl<T: Hashed, A: Allocator> IndexedList<T, A> {
         let hash = element.hash();
         let id = self.list.push_reserved(element);
         self.index.add(id.number(), hash);
+        move_some(&mut self.index, &self.list);
         id
     }
 

@@ -1,49 +1,75 @@
 //! Growth of an index beside the list whose nodes it finds.
-ghost use Rattle.std.specs.Prelude.{◌≡◌, ℕ, ◌<◌, ◌≤◌, [], nat_eq, IsOk, OnErr, OnOk};
-ghost use Rattle.std.specs.List.{IsDistinct};
-ghost use Rattle.std.specs.Map.{keys_of};
-ghost use Rattle.moka_list.specs.HashIndex.{candidates};
-ghost use Rattle.moka_list.specs.Nodes.{IsIn};
+ghost use Rattle.std.specs.Prelude.{◌≡◌, ◌+◌, ◌<◌, ◌≤◌, IsOk, OnOk};
 ghost use Rattle.moka_list.specs.Indexed.{IsIndexed};
 
-use crate::chain::Chain;
-use crate::hash_index::HashIndex;
+use crate::chain::{Chain, NodeId};
+use crate::growing_index::GrowingIndex;
 use moka_common::error::OutOfMemory;
 use moka_common::hash::Hashed;
 use std::alloc::Allocator;
 
-/// Grows an index to take ids below `ids`, and adds the ids of all nodes to it again.
-pub fn index_all<T: Hashed, A: Allocator>(
-    index: &mut HashIndex<A>,
+/// The number of ids that an insert moves.
+const BATCH: usize = 4;
+
+/// Grows an index to take ids below `ids`. The ids of all nodes stay in the smaller table; `move_some` moves them. If some are still in an even smaller one,
+/// they are moved first.
+pub fn make_room<T: Hashed, A: Allocator>(
+    index: &mut GrowingIndex<A>,
     list: &Chain<T, A>,
     ids: usize,
 ) -> Result<(), OutOfMemory>
-    requires once { IsDistinct nat_eq (keys_of list.now.items) }
     requires indexed { IsIndexed T.hash_of list.now.items index.old }
     ensures indexed { IsIndexed T.hash_of list.now.items index.new }
     ensures room { OnOk result (ids ≤ index.new.ids) }
     ensures had_room { ids ≤ index.old.ids → IsOk result × (index.new ≡ index.old) }
-    ensures err { OnErr result (index.new ≡ index.old) }
+    ensures ids { index.old.ids ≤ index.new.ids }
 {
     if ids <= index.ids() {
         return Ok(());
     }
-    index.reset(ids)?;
-    add_all(index, list);
-    Ok(())
+    while 0 < index.left() {
+        move_one(index, list);
+    }
+    index.grow(ids)
 }
 
-/// Adds the ids of all nodes to an index without ids.
-fn add_all<T: Hashed, A: Allocator>(index: &mut HashIndex<A>, list: &Chain<T, A>)
-    requires once { IsDistinct nat_eq (keys_of list.now.items) }
-    requires bound { (id : ℕ) → IsIn list.now.items id → id < index.old.ids }
-    requires empty { (hash : ℕ) → candidates index.old hash ≡ [] }
+/// Moves some ids to the larger table, if any are left.
+#[inline(always)]
+pub fn move_some<T: Hashed, A: Allocator>(index: &mut GrowingIndex<A>, list: &Chain<T, A>)
+    requires indexed { IsIndexed T.hash_of list.now.items index.old }
     ensures indexed { IsIndexed T.hash_of list.now.items index.new }
     ensures ids { index.new.ids ≡ index.old.ids }
 {
-    let mut here = list.front();
-    while let Some(id) = here {
-        index.add(id.number(), list.get(id).hash());
-        here = list.next(id);
+    if 0 < index.left() {
+        move_batch(index, list);
+    }
+}
+
+#[inline(never)]
+fn move_batch<T: Hashed, A: Allocator>(index: &mut GrowingIndex<A>, list: &Chain<T, A>)
+    requires indexed { IsIndexed T.hash_of list.now.items index.old }
+    ensures indexed { IsIndexed T.hash_of list.now.items index.new }
+    ensures ids { index.new.ids ≡ index.old.ids }
+{
+    let mut moved = 0;
+    while moved < BATCH && 0 < index.left() {
+        move_one(index, list);
+        moved += 1;
+    }
+}
+
+/// Moves the next id to the larger table, if it is in the list.
+fn move_one<T: Hashed, A: Allocator>(index: &mut GrowingIndex<A>, list: &Chain<T, A>)
+    requires left { 0 < index.old.left }
+    requires indexed { IsIndexed T.hash_of list.now.items index.old }
+    ensures indexed { IsIndexed T.hash_of list.now.items index.new }
+    ensures ids { index.new.ids ≡ index.old.ids }
+    ensures step { index.new.left + 1 ≡ index.old.left }
+{
+    let id = NodeId::from_number(index.next());
+    if list.contains(id) {
+        index.move_next(list.get(id).hash());
+    } else {
+        index.pass_next();
     }
 }

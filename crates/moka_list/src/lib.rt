@@ -4,6 +4,7 @@
 pub mod chain;
 pub mod constants;
 pub mod group;
+pub mod growing_index;
 pub mod hash_index;
 pub mod indexed_list;
 pub mod indexing;

@@ -72,7 +72,12 @@ impl<A: Allocator + Clone + Drop> Orders<A> {
         ensures { IfOk result (λ orders. orders ≡ record { nodes = []; written = []; room = 0 }) }
     {
         Ok(Orders {
-            access: IndexedList::new(alloc.clone()?, alloc.clone()?, alloc.clone()?),
+            access: IndexedList::new(
+                alloc.clone()?,
+                alloc.clone()?,
+                alloc.clone()?,
+                alloc.clone()?,
+            ),
             writes: IdList::new(alloc),
             total: 0,
             high_water: HighWater::new(),

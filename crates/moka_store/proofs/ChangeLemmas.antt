@@ -5,7 +5,7 @@ use Rattle.std.specs.Cmp.{IsEquivalence}
 use Rattle.std.specs.List.{IsDistinct}
 use Rattle.std.specs.Map.{lookup, remove_entry, set_value, keys_of}
 use Rattle.moka_list.specs.Nodes.{next_id}
-use Rattle.moka_list.specs.HashIndex.{HashIndex}
+use Rattle.moka_list.specs.GrowingIndex.{GrowingIndex}
 use Rattle.moka_unsync_model.specs.Deadline.{expiry_of}
 use Rattle.moka_unsync_model.specs.declared.entry.Entry.{Entry}
 use Rattle.moka_unsync_model.specs.declared.entry.Part.{Part}
@@ -24,7 +24,7 @@ use Rattle.moka_store.proofs.WeightLemmas.{parts_less, share_all, weight-removed
 use Rattle.moka_store.proofs.WriteLemmas.{under-last, under-same}
 
 module _ {K V : Type 0} {eq : K → K → Bool} {keeps : Bool} {nodes : List (ℕ × Entry K V)} {marks : Marks} {ids : List ℕ} {weights : Weights}
-    {index : HashIndex} (s : IsStored eq keeps nodes marks ids weights index) (id : ℕ) (x e : Entry K V) (stood : lookup (nat_eq id) nodes ≡ Some x) where
+    {index : GrowingIndex} (s : IsStored eq keeps nodes marks ids weights index) (id : ℕ) (x e : Entry K V) (stood : lookup (nat_eq id) nodes ≡ Some x) where
   set_once : IsDistinct nat_eq (keys_of (set_value (nat_eq id) nodes e))
   set_once = subst (IsDistinct nat_eq) (sym (keys-set id e nodes)) s.keyed.once
 
@@ -132,7 +132,7 @@ module _ {K V : Type 0} {eq : K → K → Bool} {keeps : Bool} {nodes : List (�
 
 -- the writes with its own last
 module _ {K V : Type 0} {eq : K → K → Bool} (laws : IsEquivalence eq) {keeps : Bool} {nodes : List (ℕ × Entry K V)} {marks : Marks} {ids : List ℕ}
-    {weights : Weights} {index : HashIndex} (s : IsStored eq keeps nodes marks ids weights index) (id : ℕ) (x e : Entry K V)
+    {weights : Weights} {index : GrowingIndex} (s : IsStored eq keeps nodes marks ids weights index) (id : ℕ) (x e : Entry K V)
     (stood : lookup (nat_eq id) nodes ≡ Some x) where
   others_listed : (new : List (ℕ × Entry K V)) → new ≡ latest_node (id, e) (remove_entry (nat_eq id) nodes) → (q : ℕ) → nat_eq id q ≡ false
       → write_under new q ≡ write_under nodes q

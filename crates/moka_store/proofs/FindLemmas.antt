@@ -4,7 +4,7 @@ use Rattle.std.proofs.lemmas.Bool.{and_from, and_parts, cases_Bool, cond-true, c
 use Rattle.std.proofs.lemmas.List.Elements.{recursion_from_All}
 use Rattle.std.specs.List.{IsDistinct, AllByRecursion}
 use Rattle.std.specs.Map.{lookup, keys_of, values_of}
-use Rattle.moka_list.specs.HashIndex.{HashIndex, candidates, is_candidate}
+use Rattle.moka_list.specs.GrowingIndex.{GrowingIndex, candidates, is_candidate}
 use Rattle.moka_list.specs.Indexed.{IsIndexed}
 use Rattle.moka_unsync_model.specs.declared.entry.Entry.{Entry}
 use Rattle.moka_unsync_model.specs.Contents.{entry_where}
@@ -59,7 +59,7 @@ module _ {K V : Type 0} (test : K → Bool) (nodes : List (ℕ × Entry K V)) wh
       by (p ∷ es) a = cond-false (test p.1.key) _ _ (differ p.0 p.1 a.0) ∙ by es a.1
 
 -- the candidates of a hash are those of a store
-pub are_candidates : {K V : Type 0} (store : Store K V) (index : HashIndex) (hash : ℕ) → IsIndexed (λ e. e.hash) store.nodes index
+pub are_candidates : {K V : Type 0} (store : Store K V) (index : GrowingIndex) (hash : ℕ) → IsIndexed (λ e. e.hash) store.nodes index
     → AreCandidates store hash (candidates index hash)
 are_candidates store index hash s =
     record {

@@ -2,7 +2,7 @@
 use Rattle.std.proofs.Common.{◌≡◌, ◌<◌, ◌+◌, ◌-◌, ◌^◌, ℕ, Bool, nat_eq, List, Some, refl, sym, true, ap, arith}
 use Rattle.std.specs.Cmp.{IsEquivalence}
 use Rattle.std.specs.Map.{lookup, remove_entry, set_value}
-use Rattle.moka_list.specs.HashIndex.{HashIndex}
+use Rattle.moka_list.specs.GrowingIndex.{GrowingIndex}
 use Rattle.moka_list.specs.Nodes.{next_id}
 use Rattle.moka_unsync_model.specs.declared.entry.Entry.{Entry}
 use Rattle.moka_unsync_model.specs.declared.entry.Part.{Part}
@@ -26,7 +26,7 @@ is_of_probation Protected same = absurd (false≢true same)
 is_of_probation Window same = absurd (false≢true same)
 
 module _ {K V : Type 0} {eq : K → K → Bool} (laws : IsEquivalence eq) {keeps : Bool} {nodes : List (ℕ × Entry K V)} {marks : Marks} {ids : List ℕ}
-    {weights : Weights} {index : HashIndex} (s : IsStored eq keeps nodes marks ids weights index) (id : ℕ) (x e : Entry K V)
+    {weights : Weights} {index : GrowingIndex} (s : IsStored eq keeps nodes marks ids weights index) (id : ℕ) (x e : Entry K V)
     (stood : lookup (nat_eq id) nodes ≡ Some x) (here : x.part ≡ Probation) where
   module _ (still : e.part ≡ Probation) (same : e.weight ≡ x.weight) where
     -- no mark stands at it

@@ -4,7 +4,7 @@ use Rattle.std.proofs.Common.{refl, sym, ap, ◌∙◌, inl, inr, subst}
 use Rattle.std.proofs.lemmas.Bool.{cases_Bool, cond-true, cond-false, eqb-true, false≢true}
 use Rattle.std.specs.List.{AllByRecursion, IsDistinct}
 use Rattle.std.specs.Map.{lookup, remove_entry, keys_of}
-use Rattle.moka_list.specs.HashIndex.{HashIndex, is_candidate}
+use Rattle.moka_list.specs.GrowingIndex.{GrowingIndex, is_candidate}
 use Rattle.moka_list.specs.Indexed.{IsIndexed}
 use Rattle.moka_unsync_model.specs.declared.entry.Entry.{Entry}
 use Rattle.moka_store.specs.Nodes.{AreKeyed, IsWritten, SameBy, bare, latest_node}
@@ -76,7 +76,7 @@ module _ {K V : Type 0} where
             s.apart i j x y at bt (sym (λ k. eq (key k) (other k)) ∙ equal);
       }
 
-  pub indexed-same : (old new : List (ℕ × Entry K V)) {index : HashIndex} → IsIndexed (λ e. e.hash) old index → SameBy (λ e. e.hash) old new
+  pub indexed-same : (old new : List (ℕ × Entry K V)) {index : GrowingIndex} → IsIndexed (λ e. e.hash) old index → SameBy (λ e. e.hash) old new
       → IsIndexed (λ e. e.hash) new index
   indexed-same old new {index = index} s same =
       record {

@@ -7,7 +7,7 @@ use Rattle.std.specs.List.{IsDistinct}
 use Rattle.std.specs.Map.{lookup, remove_entry, keys_of, values_of}
 use Rattle.moka_list.specs.Chain.{Chain}
 use Rattle.moka_list.specs.IdList.{IdList}
-use Rattle.moka_list.specs.HashIndex.{HashIndex, candidates, Adds, Removes as Unlists}
+use Rattle.moka_list.specs.GrowingIndex.{GrowingIndex, candidates, Adds, Removes as Unlists}
 use Rattle.moka_unsync_model.specs.declared.entry.Entry.{Entry}
 use Rattle.moka_unsync_model.specs.Contents.{entry_at}
 use Rattle.moka_store.specs.declared.parts.Marks.{Marks}
@@ -15,6 +15,7 @@ use Rattle.moka_store.specs.declared.parts.Weights.{Weights}
 use Rattle.moka_store.specs.Room.{HasRoom}
 use Rattle.moka_store.specs.Nodes.{AreMarks, IsBalanced, IsParted, IsStored, SameBy, bare, latest_node, weights_of}
 use Rattle.moka_store.specs.Nodes.{write_added, write_last, write_left}
+use Rattle.moka_list.specs.Indexed.{IsIndexed}
 use Rattle.moka_list.proofs.IndexLemmas.{IsIndexed-enter, IsIndexed-none, IsIndexed-remove}
 use Rattle.moka_store.proofs.LatestLemmas.{all-latest, distinct-relisted, gone, length-latest, lookup-latest}
 use Rattle.moka_store.proofs.NodeLemmas.{all-removed, keyed-latest, keyed-none, keyed-removed, key_absent, length-keys, order-removed}
@@ -31,8 +32,8 @@ present e = true
 yes : true ≡ true
 yes = refl
 
-module _ {K V : Type 0} {keeps : Bool} {ready : ℕ} {entries : Chain (Entry K V)} {writes : IdList} {index : HashIndex}
-    (h : HasRoom keeps ready entries writes index) (new : Chain (Entry K V)) (listed : IdList) (indexed : HashIndex)
+module _ {K V : Type 0} {keeps : Bool} {ready : ℕ} {entries : Chain (Entry K V)} {writes : IdList} {index : GrowingIndex}
+    (h : HasRoom keeps ready entries writes index) (new : Chain (Entry K V)) (listed : IdList) (indexed : GrowingIndex)
     (capacity : new.capacity ≡ entries.capacity) (written : listed.capacity ≡ writes.capacity) (ids : indexed.ids ≡ index.ids) where
   -- as many entries fit where the lists have the same capacities
   pub room-kept : (0 < ready → new.room ≡ new.capacity - length new.items) → HasRoom keeps ready new listed indexed
@@ -50,7 +51,7 @@ module _ {K V : Type 0} {keeps : Bool} {ready : ℕ} {entries : Chain (Entry K V
   room-same room len = room-kept (λ some. let was = h.room some in omega (arith, was, room, len, capacity))
 
 -- a node that was pushed into such room has one in all of them
-pub pushed_below : {K V : Type 0} {keeps : Bool} {ready : ℕ} {entries : Chain (Entry K V)} {writes : IdList} {index : HashIndex}
+pub pushed_below : {K V : Type 0} {keeps : Bool} {ready : ℕ} {entries : Chain (Entry K V)} {writes : IdList} {index : GrowingIndex}
     → HasRoom keeps ready entries writes index → length entries.items < ready → (new : Chain (Entry K V)) (id : ℕ) (e : Entry K V)
     → new.items ≡ entries.items ++ (id, e) ∷ [] → entries.room ≡ new.room + 1 → id < length new.items + new.room
     → (id < index.ids) × (keeps ≡ true → id < writes.capacity)
@@ -62,7 +63,7 @@ pushed_below {ready = ready} {entries = entries} h room new id e items less belo
 
 -- what holds of a store holds of an empty one
 pub stored-none : {K V : Type 0} (eq : K → K → Bool) (keeps : Bool) (nodes : List (ℕ × Entry K V)) (marks : Marks) (ids : List ℕ) (weights : Weights)
-    (index : HashIndex) → nodes ≡ [] → marks ≡ record { late = None; window = None } → ids ≡ []
+    (index : GrowingIndex) → nodes ≡ [] → marks ≡ record { late = None; window = None } → ids ≡ []
     → weights ≡ record { all = 0; protected = 0; window = 0 } → ((hash : ℕ) → candidates index hash ≡ [])
     → IsStored eq keeps nodes marks ids weights index
 stored-none {K = K} {V = V} eq keeps nodes marks ids weights index nodes_is marks_is ids_is weights_is empty =
@@ -88,7 +89,7 @@ pub length-balanced : {K V : Type 0} {limit : ℕ} (nodes new : List (ℕ × Ent
 length-balanced nodes new b = sym (length-keys new) ∙ (ap length b.ids ∙ length-keys nodes)
 
 -- as many entries fit once one has moved, and protected is within its limit
-pub room-balanced : {K V : Type 0} {keeps : Bool} {ready limit : ℕ} {entries : Chain (Entry K V)} {writes : IdList} {index : HashIndex}
+pub room-balanced : {K V : Type 0} {keeps : Bool} {ready limit : ℕ} {entries : Chain (Entry K V)} {writes : IdList} {index : GrowingIndex}
     → HasRoom keeps ready entries writes index → (mid new : Chain (Entry K V)) (listed : IdList) → mid ≡ record entries { items = mid.items }
     → length mid.items ≡ length entries.items → new ≡ record mid { items = new.items } → IsBalanced limit mid.items new.items
     → listed.capacity ≡ writes.capacity → HasRoom keeps ready new listed index
@@ -97,10 +98,23 @@ room-balanced {index = index} h mid new listed moved len same balance written =
     (ap (λ v. v.room) same ∙ ap (λ v. v.room) moved) (length-balanced mid.items new.items balance ∙ len)
 
 module _ {K V : Type 0} {eq : K → K → Bool} (laws : IsEquivalence eq) {keeps : Bool} {nodes : List (ℕ × Entry K V)} {marks : Marks} {ids : List ℕ}
-    {weights : Weights} {index : HashIndex} (s : IsStored eq keeps nodes marks ids weights index) where
+    {weights : Weights} {index : GrowingIndex} (s : IsStored eq keeps nodes marks ids weights index) where
+  -- ids move in the index
+  pub stored-reindexed : (new : GrowingIndex) → IsIndexed (λ e. e.hash) nodes new → IsStored eq keeps nodes marks ids weights new
+  stored-reindexed new indexed = record {
+    keyed = s.keyed;
+    order = s.order;
+    marked = s.marked;
+    few = s.few;
+    small = s.small;
+    weighed = s.weighed;
+    written = s.written;
+    indexed = indexed;
+  }
+
   -- a node leaves
   pub stored-removed : (id : ℕ) (e : Entry K V) → lookup (nat_eq id) nodes ≡ Some e → (new : List (ℕ × Entry K V)) (left : Marks) (listed : List ℕ)
-      (lighter : Weights) (without : HashIndex) → new ≡ remove_entry (nat_eq id) nodes → AreMarks (remove_entry (nat_eq id) nodes) left
+      (lighter : Weights) (without : GrowingIndex) → new ≡ remove_entry (nat_eq id) nodes → AreMarks (remove_entry (nat_eq id) nodes) left
       → listed ≡ write_left keeps id ids → lighter ≡ weights_of (remove_entry (nat_eq id) nodes) → Unlists index id without
       → IsStored eq keeps new left listed lighter without
   stored-removed id e stood new left listed lighter without new_is marked listed_is weighed step =
@@ -117,7 +131,7 @@ module _ {K V : Type 0} {eq : K → K → Bool} (laws : IsEquivalence eq) {keeps
 
   -- a node enters
   pub stored-latest : (id : ℕ) (e : Entry K V) → lookup (nat_eq id) nodes ≡ None → entry_at eq e.key (values_of nodes) ≡ None → e.weight < 2 ^ 32
-      → suc (length nodes) < 2 ^ 32 → (new : List (ℕ × Entry K V)) (with_it : Marks) (listed : List ℕ) (heavier : Weights) (indexed : HashIndex)
+      → suc (length nodes) < 2 ^ 32 → (new : List (ℕ × Entry K V)) (with_it : Marks) (listed : List ℕ) (heavier : Weights) (indexed : GrowingIndex)
       → new ≡ latest_node (id, e) nodes → AreMarks new with_it → listed ≡ write_added keeps id ids → heavier ≡ weights_of (latest_node (id, e) nodes)
       → id < index.ids → Adds index id e.hash indexed → IsStored eq keeps new with_it listed heavier indexed
   stored-latest id e fresh absent small few new with_it listed heavier indexed new_is marked listed_is weighed room step =
@@ -159,7 +173,7 @@ module _ {K V : Type 0} {eq : K → K → Bool} (laws : IsEquivalence eq) {keeps
 
     -- another entry comes in its place
     pub stored-replaced : entry_at eq e.key (values_of nodes) ≡ None → (listed : List ℕ) → listed ≡ write_last keeps id ids
-        → (without indexed : HashIndex) → Unlists index id without → Adds without id e.hash indexed → IsStored eq keeps new moved listed weighs indexed
+        → (without indexed : GrowingIndex) → Unlists index id without → Adds without id e.hash indexed → IsStored eq keeps new moved listed weighs indexed
     stored-replaced absent listed listed_is without indexed left step =
         let rest = remove_entry (nat_eq id) nodes in
         let fresh = gone id nodes s.keyed.once in

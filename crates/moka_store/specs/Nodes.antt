@@ -7,7 +7,7 @@ use Rattle.std.specs.Map.{lookup, keys_of, remove_entry, values_of}
 use Rattle.moka_list.specs.Chain.{moved_before}
 use Rattle.moka_list.specs.Nodes.{first_id, moved_to_back}
 use Rattle.moka_list.specs.IdList.{ids_without, is_listed}
-use Rattle.moka_list.specs.HashIndex.{HashIndex}
+use Rattle.moka_list.specs.GrowingIndex.{GrowingIndex}
 use Rattle.moka_list.specs.Indexed.{IsIndexed}
 use Rattle.moka_unsync_model.specs.declared.entry.Entry.{Entry}
 use Rattle.moka_unsync_model.specs.declared.entry.Part.{Part}
@@ -176,7 +176,7 @@ module _ {K V : Type 0} where
 
   -- the parts stand in order, marks and weights are theirs, lengths and weights have 32 bits, and writes and index have each node
   pub record IsStored (eq : K → K → Bool) (keeps : Bool) (nodes : List (ℕ × Entry K V)) (marks : Marks) (ids : List ℕ) (weights : Weights)
-      (index : HashIndex) : Type 0 where
+      (index : GrowingIndex) : Type 0 where
     pub keyed : AreKeyed eq nodes
     pub order : InOrder Probation (values_of nodes)
     pub marked : AreMarks nodes marks

@@ -27,8 +27,8 @@ use moka_common::policy::Policy;
 use moka_common::time::Instant;
 use moka_list::chain::{Chain, IdList, Iter, NodeId};
 use moka_list::constants::MAX_IDS;
-use moka_list::hash_index::{Candidates, HashIndex};
-use moka_list::indexing::index_all;
+use moka_list::growing_index::{Candidates, GrowingIndex};
+use moka_list::indexing::{make_room, move_some};
 use moka_unsync_model::entry::{Entry, Part};
 use std::alloc::{AllocError, Allocator, Global};
 use std::hash::Hash;
@@ -47,7 +47,7 @@ pub struct Store<K: Eq + Drop, V: Drop, A: Allocator + Clone + Drop = Global> {
     // The same nodes in order of writing, where that is kept.
     writes: IdList<A>,
     keeps_writes: bool,
-    index: HashIndex<A>,
+    index: GrowingIndex<A>,
     // Entries that fit with no allocation.
     ready: usize,
 }
@@ -89,7 +89,7 @@ impl<K: Eq + Drop, V: Drop, A: Allocator + Clone + Drop> Store<K, V, A> {
             protected_limit,
             writes: IdList::new(alloc.clone()?),
             keeps_writes: policy.time_to_live().is_some(),
-            index: HashIndex::new(alloc),
+            index: GrowingIndex::new(alloc.clone()?, alloc),
             ready: 0,
         })
     }
@@ -119,13 +119,13 @@ impl<K: Eq + Drop, V: Drop, A: Allocator + Clone + Drop> Store<K, V, A> {
         let needed = len.saturating_add(additional);
         if needed > ids {
             let target = needed.max(most.min(ids.saturating_mul(2)).min(MAX_IDS));
-            index_all(&mut self.index, &self.entries, target)?;
+            make_room(&mut self.index, &self.entries, target)?;
             self.entries.reserve_exact(additional.max(target - len))?;
         } else {
             self.entries.reserve_exact(additional)?;
         }
         let ids = self.entries.capacity();
-        index_all(&mut self.index, &self.entries, ids)?;
+        make_room(&mut self.index, &self.entries, ids)?;
         if self.keeps_writes {
             self.writes.reserve(ids)?;
         }
@@ -159,7 +159,7 @@ impl<K: Eq + Drop, V: Drop, A: Allocator + Clone + Drop> Store<K, V, A> {
 
     /// Begins a search: the ids of the nodes that may have this hash. A call that has other work to do begins early, so that memory answers meanwhile.
     #[inline(always)]
-    pub fn candidates(&self, hash: u64) -> Candidates<'_>
+    pub fn candidates(&self, hash: u64) -> Candidates<'_, A>
         ensures { AreCandidates self.now hash result }
     {
         self.index.candidates(hash)
@@ -169,7 +169,7 @@ impl<K: Eq + Drop, V: Drop, A: Allocator + Clone + Drop> Store<K, V, A> {
     #[inline(always)]
     pub fn find_among<Q: Lookup<K>>(
         &self,
-        candidates: Candidates<'_>,
+        candidates: Candidates<'_, A>,
         probe: Q,
         hash: u64,
     ) -> Option<NodeId>
@@ -394,6 +394,7 @@ impl<K: Eq + Drop, V: Drop, A: Allocator + Clone + Drop> Store<K, V, A> {
         attach(&mut self.entries, &mut self.marks, id, part);
         add_write(&mut self.writes, self.keeps_writes, id);
         self.index.add(id.number(), hash);
+        move_some(&mut self.index, &self.entries);
     }
 
     /// Removes an entry, returns it, and adds another in its node, as `take` and `push` would. It spares the allocation of a node and half of the relinking.
@@ -415,6 +416,7 @@ impl<K: Eq + Drop, V: Drop, A: Allocator + Clone + Drop> Store<K, V, A> {
         attach(&mut self.entries, &mut self.marks, id, part);
         write_again(&mut self.writes, self.keeps_writes, id);
         self.index.add(id.number(), hash);
+        move_some(&mut self.index, &self.entries);
         gone
     }
 

@@ -1,6 +1,6 @@
 use Rattle.std.proofs.Common.{◌≡◌, true, subst}
 use Rattle.std.specs.Fn.{FnReturnsAt}
-use Rattle.moka_list.specs.HashIndex.{is_candidate}
+use Rattle.moka_list.specs.GrowingIndex.{is_candidate}
 use Rattle.moka_list.proofs.FindLemmas.{fails, found_passes, none_passes, passes, IsTested}
 use Rattle.moka_list.proofs.indexed_list.IndexedList.find.Goals as goal
 

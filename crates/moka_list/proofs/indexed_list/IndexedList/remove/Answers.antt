@@ -1,5 +1,5 @@
 use Rattle.std.proofs.Common.{ap, is_some, length, subst}
-use Rattle.moka_list.specs.HashIndex.{Removes}
+use Rattle.moka_list.specs.GrowingIndex.{Removes}
 use Rattle.moka_list.proofs.IndexedListLemmas.{room_removed, sound-removed}
 use Rattle.moka_list.proofs.ItemLemmas.{length-remove}
 use Rattle.moka_list.proofs.indexed_list.IndexedList.remove.Goals as goal

@@ -1,5 +1,5 @@
 use Rattle.std.proofs.Common.{◌∙◌, ap, refl, subst}
-use Rattle.moka_list.specs.HashIndex.{Removes as Unlists}
+use Rattle.moka_list.specs.GrowingIndex.{Removes as Unlists}
 use Rattle.moka_store.specs.Nodes.{written_under}
 use Rattle.moka_store.proofs.MarkLemmas.{marks-passed}
 use Rattle.moka_store.proofs.StepLemmas.{removes_is}
