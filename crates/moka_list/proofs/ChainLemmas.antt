@@ -14,7 +14,7 @@ use Rattle.moka_list.specs.declared.chain.links.TheConstants.{NONE}
 use Rattle.moka_list.specs.Chain.{inserted, moved_before}
 use Rattle.moka_list.specs.Chained.{IsChained, IsThreaded, before_rest, capacity_of, items_of, walk}
 use Rattle.moka_list.specs.Nodes.{moved_to_back, next_id}
-use Rattle.moka_list.specs.Links.{APART, IsPlace, Lengthened, LinkedBack, LinkedBefore, Unlinked, links_at, next_at, prev_at}
+use Rattle.moka_list.specs.Links.{APART, IsPlace, Lengthened, LinkedBack, LinkedBefore, Unlinked, links_at, next_at, prev_at, reserved}
 use Rattle.moka_list.specs.Nodes.{AreApart, follower, preceder}
 use Rattle.moka_list.proofs.ItemLemmas.{AreApart-push, AreApart-remove, AreApart-set, absent-remove}
 use Rattle.moka_list.proofs.ItemLemmas.{absent-set, absent_head, absent_tail, differs}
@@ -431,25 +431,20 @@ chained-grown slots slots_new links links_new es h kept wider step =
       fits = let same : slab_len slots_new ≡ slab_len slots = ap slab_len kept in omega (arith, same, wider, h.fits);
     }
 
--- where there is room, all that there is room for has links
+-- where there is room, there is memory for all links
 pub room_linked : {T A : Type 0} (slots : Slab T) (links : LinkTable A) → 0 < capacity_of slots links - slab_len slots
-    → (slots.capacity ≤ length links.links.items) × (capacity_of slots links ≡ slots.capacity)
+    → (slots.capacity ≤ reserved links) × (capacity_of slots links ≡ slots.capacity)
 room_linked slots links h =
-    elim (cases_Bool (nat_le slots.capacity (length links.links.items))) [
-      | inl fits ↦ (
-        leb-true slots.capacity (length links.links.items) fits,
-        cond-true (nat_le slots.capacity (length links.links.items)) slots.capacity 0 fits,
-      )
+    elim (cases_Bool (nat_le slots.capacity (reserved links))) [
+      | inl fits ↦ (leb-true slots.capacity (reserved links) fits, cond-true (nat_le slots.capacity (reserved links)) slots.capacity 0 fits)
       | inr lacks ↦
-          let none : capacity_of slots links ≡ 0 = cond-false (nat_le slots.capacity (length links.links.items)) slots.capacity 0 lacks in
+          let none : capacity_of slots links ≡ 0 = cond-false (nat_le slots.capacity (reserved links)) slots.capacity 0 lacks in
           absurd (omega (arith, none, h))
     ]
 
--- and where all that has, what the slab has room for fits
-pub capacity_is : {T A : Type 0} (slots : Slab T) (links : LinkTable A) → slots.capacity ≤ length links.links.items
-    → capacity_of slots links ≡ slots.capacity
-capacity_is slots links fits =
-    cond-true (nat_le slots.capacity (length links.links.items)) slots.capacity 0 (le-leb slots.capacity (length links.links.items) fits)
+-- and then what the slab has room for fits
+pub capacity_is : {T A : Type 0} (slots : Slab T) (links : LinkTable A) → slots.capacity ≤ reserved links → capacity_of slots links ≡ slots.capacity
+capacity_is slots links fits = cond-true (nat_le slots.capacity (reserved links)) slots.capacity 0 (le-leb slots.capacity (reserved links) fits)
 
 -- another element takes no room
 pub len-set : {T A : Type 0} (slots : Slab T) (links : LinkTable A) (es : List (ℕ × T)) (id : ℕ) (w : T) → IsChained slots links es
@@ -485,22 +480,23 @@ module _ {T A : Type 0} {slots slots_new : Slab T} {links links_new : LinkTable 
       shows slots_new links_new (remove_entry (nat_eq id) items)
       (chained-unlinked slots slots_new links links_new items id x h at u len capacity step links_len)
 
-  -- a node was put at the back, in room that was there
-  pub shows-pushed : (id : ℕ) (x : T) → 0 < capacity_of slots links - slab_len slots → get slots id ≡ None
-      → Updates slots slots_new id (Some x)
-      → slab_len slots_new ≡ slab_len slots + 1 → id < slots_new.capacity → slots_new.capacity ≡ slots.capacity
-      → (IsPlace links links.last → LinkedBack links links_new id) → length links_new.links.items ≡ length links.links.items
-      → Shows slots_new links_new (items_of slots links ++ (id, x) ∷ [])
+  -- a node was put at the back, in room that was there, once it had links
+  pub shows-pushed : {covered : LinkTable A} (id : ℕ) (x : T) → 0 < capacity_of slots links - slab_len slots → get slots id ≡ None
+      → Updates slots slots_new id (Some x) → slab_len slots_new ≡ slab_len slots + 1 → id < slots_new.capacity → slots_new.capacity ≡ slots.capacity
+      → Lengthened links covered → id < length covered.links.items → reserved covered ≡ reserved links
+      → (IsPlace covered covered.last → LinkedBack covered links_new id) → length links_new.links.items ≡ length covered.links.items
+      → reserved links_new ≡ reserved covered → Shows slots_new links_new (items_of slots links ++ (id, x) ∷ [])
       × (id < length (items_of slots_new links_new) + (capacity_of slots_new links_new - slab_len slots_new))
-  shows-pushed id x some was u len below capacity back links_len =
+  shows-pushed {covered = covered} id x some was u len below capacity longer within covered_room back links_len room_same =
       let items = items_of slots links in
       let room = room_linked slots links some in
       let left : 0 < slots.capacity - slab_len slots = subst (λ n. 0 < n - slab_len slots) room.1 some in
+      let c = chained-grown slots slots links covered items h refl (omega arith) longer in
       let shown =
       shows slots_new links_new (items ++ (id, x) ∷ [])
-      (chained-pushed slots slots_new links links_new items id x h was u len (omega (arith, len, capacity, left))
-      (omega (arith, below, capacity, room.0)) (back (tail_place slots links items h)) links_len) in
-      let fits = capacity_is slots_new links_new (omega (arith, capacity, room.0, links_len)) in
+      (chained-pushed slots slots_new covered links_new items id x c was u len (omega (arith, len, capacity, left)) within
+      (back (tail_place slots covered items c)) links_len) in
+      let fits = capacity_is slots_new links_new (omega (arith, capacity, room.0, covered_room, room_same)) in
       (shown, omega (arith, below, fits, shown.0.len, shown.0.fits))
 
 -- a node of the chain was moved to the back

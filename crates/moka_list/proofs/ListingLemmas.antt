@@ -239,12 +239,13 @@ module _ {A : Type 0} {links : LinkTable A} (len : ℕ) (h : IsListing links (id
   pub lists-grown : {new : LinkTable A} → Lengthened links new → Lists new len (ids_of links len)
   lists-grown {new = new} step = lists new len (ids_of links len) (listing-grown h step) (sym (length-walk links len links.first))
 
-  pub lists-pushed : {new : LinkTable A} (id : ℕ) → is_listed (ids_of links len) id ≡ false → id < length links.links.items
-      → (IsPlace links links.last → LinkedBack links new id) → length new.links.items ≡ length links.links.items
-      → Lists new (len + 1) (ids_of links len ++ id ∷ [])
-  lists-pushed {new = new} id absent below step same =
+  pub lists-pushed : {covered new : LinkTable A} (id : ℕ) → is_listed (ids_of links len) id ≡ false → Lengthened links covered
+      → id < length covered.links.items → (IsPlace covered covered.last → LinkedBack covered new id)
+      → length new.links.items ≡ length covered.links.items → Lists new (len + 1) (ids_of links len ++ id ∷ [])
+  lists-pushed {covered = covered} {new = new} id absent longer below step same =
+      let h = listing-grown h longer in
       lists new (len + 1) (ids_of links len ++ id ∷ [])
-      (listing-pushed h id absent below (step (tail_place links (ids_of links len) h)) same)
+      (listing-pushed h id absent below (step (tail_place covered (ids_of links len) h)) same)
       (omega (arith, length-append (ids_of links len) (id ∷ []), length-walk links len links.first))
 
   module _ (id : ℕ) (found : is_listed (ids_of links len) id ≡ true) where

@@ -4,7 +4,7 @@ use Rattle.std.specs.Map.{lookup}
 use Rattle.slab.specs.Slab.{Slab, get, slab_len}
 use Rattle.moka_list.specs.declared.chain.links.LinkTable.{LinkTable}
 use Rattle.moka_list.specs.declared.chain.links.TheConstants.{NONE}
-use Rattle.moka_list.specs.Links.{IsNumbered, next_at, prev_at}
+use Rattle.moka_list.specs.Links.{IsNumbered, next_at, prev_at, reserved}
 use Rattle.moka_list.specs.Nodes.{AreApart, follower, preceder}
 
 module _ {T : Type 0} where
@@ -23,9 +23,9 @@ module _ {T A : Type 0} (slots : Slab T) (links : LinkTable A) where
   abbrev pub items_of : List (ℕ × T)
   items_of = walk (slab_len slots) links.first
 
-  -- how many fit: as many as the slab holds, where all of these have links, and else none
+  -- how many fit: as many as the slab holds, where there is memory for the links of all these, and else none
   abbrev pub capacity_of : ℕ
-  capacity_of = if nat_le slots.capacity (length links.links.items) then slots.capacity else 0
+  capacity_of = if nat_le slots.capacity (reserved links) then slots.capacity else 0
 
 -- each node has its links
 abbrev pub AreLinked : {T A : Type 0} → Slab T → LinkTable A → Type 0

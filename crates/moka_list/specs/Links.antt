@@ -1,5 +1,6 @@
 -- How the links of a chain are laid out, and what a call changes in them. No public clause cites this module.
-use Rattle.std.specs.Prelude.{◌≡◌, ◌⊎◌, ℕ, ◌<◌, ◌≤◌, nat_eq, if◌then◌else◌, List, length, slice_index_or}
+use Rattle.std.specs.Prelude.{◌≡◌, ◌⊎◌, ℕ, ◌<◌, ◌≤◌, nat_eq, if◌then◌else◌, List, length, min, slice_index_or}
+use Rattle.std.specs.Vec.{vec_capacity}
 use Rattle.moka_list.specs.declared.chain.links.Links.{Links}
 use Rattle.moka_list.specs.declared.chain.links.LinkTable.{LinkTable}
 use Rattle.moka_list.specs.declared.chain.links.TheConstants.{NONE}
@@ -28,6 +29,10 @@ module _ {A : Type 0} where
   -- no node has the number that stands for none
   abbrev pub IsNumbered : LinkTable A → Type 0
   IsNumbered t = length t.links.items ≤ NONE
+
+  -- how many nodes there is memory for
+  abbrev pub reserved : LinkTable A → ℕ
+  reserved t = min (vec_capacity t.links) NONE
 
   -- there may be links for more nodes, which have no neighbours yet
   pub record Lengthened (old new : LinkTable A) : Type 0 where

@@ -128,11 +128,11 @@ impl<T, A: Allocator> Chain<T, A> {
         ensures items { self.new.items ≡ self.old.items }
     {
         self.links
-            .grow(self.slots.len().saturating_add(additional))?;
+            .reserve(self.slots.len().saturating_add(additional))?;
         self.slots.reserve_exact(additional)?;
 
         // What was reserved may be more than was asked for.
-        self.links.grow(self.slots.capacity())
+        self.links.reserve(self.slots.capacity())
     }
 
     /// Returns `true` if `additional` more elements fit.
@@ -141,7 +141,7 @@ impl<T, A: Allocator> Chain<T, A> {
         ensures room { IsTrue result → additional ≤ self.now.room }
     {
         let (len, capacity) = (self.slots.len(), self.slots.capacity());
-        if capacity > self.links.len() {
+        if capacity > self.links.capacity() {
             return len == 0 && additional == 0;
         }
         additional <= capacity - len
@@ -164,7 +164,7 @@ impl<T, A: Allocator> Chain<T, A> {
         ensures room { self.now.room ≡ self.now.capacity - length self.now.items }
     {
         let capacity = self.slots.capacity();
-        if capacity > self.links.len() {
+        if capacity > self.links.capacity() {
             return 0;
         }
         capacity
@@ -233,6 +233,7 @@ impl<T, A: Allocator> Chain<T, A> {
         ensures below { result < length self.new.items + self.new.room }
     {
         let id = self.slots.insert_reserved(element);
+        self.links.cover(id);
         self.links.link_back(id);
         NodeId { number: id }
     }

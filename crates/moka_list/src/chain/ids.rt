@@ -16,13 +16,13 @@ pub struct IdList<A: Allocator = Global> {
 }
 
 impl<A: Allocator> Model for IdList<A> {
-    ghost use Rattle.std.specs.Prelude.{length};
     ghost use Rattle.moka_list.specs.IdList.{IdList as Listed};
+    ghost use Rattle.moka_list.specs.Links.{reserved};
     ghost use Rattle.moka_list.specs.Listing.{IsListing, ids_of};
 
     ghost Value = { Listed };
 
-    ghost view = { λ l. record { ids = ids_of l.links l.len; capacity = length l.links.links.items } };
+    ghost view = { λ l. record { ids = ids_of l.links l.len; capacity = reserved l.links } };
 
     ghost invariant = { λ l. IsListing l.links (ids_of l.links l.len) };
 }
@@ -46,10 +46,10 @@ impl<A: Allocator> IdList<A> {
         ensures more { self.old.capacity ≤ self.new.capacity }
         ensures ids { self.new.ids ≡ self.old.ids }
     {
-        if capacity <= self.links.len() {
+        if capacity <= self.links.capacity() {
             return Ok(());
         }
-        match self.links.grow(capacity) {
+        match self.links.reserve(capacity) {
             Ok(()) => Ok(()),
             Err(_) => Err(OutOfMemory),
         }
@@ -74,6 +74,7 @@ impl<A: Allocator> IdList<A> {
         ensures ids { self.new.ids ≡ self.old.ids ++ id ∷ [] }
         ensures capacity { self.new.capacity ≡ self.old.capacity }
     {
+        self.links.cover(id.number);
         self.links.link_back(id.number);
         self.len += 1;
     }

@@ -3,7 +3,7 @@
 // `NONE` stands for the place before the first node and behind the last, so that the ends need no cases: its next node is the first, and its previous
 // one the last. A node that is not in the chain has no neighbours.
 ghost use Rattle.std.specs.Prelude.{◌≡◌, ℕ, ◌<◌, ◌≤◌, length, OnOk};
-ghost use Rattle.moka_list.specs.Links.{IsNumbered, IsPlace, Lengthened, LinkedBack, LinkedBefore, Unlinked, next_at, prev_at};
+ghost use Rattle.moka_list.specs.Links.{IsNumbered, IsPlace, Lengthened, LinkedBack, LinkedBefore, Unlinked, next_at, prev_at, reserved};
 
 use std::alloc::{AllocError, Allocator, Global};
 
@@ -36,7 +36,7 @@ impl<A: Allocator> LinkTable<A> {
     pub(crate) fn new(alloc: A) -> Self
         ensures next { (id : ℕ) → next_at result id ≡ NONE }
         ensures prev { (id : ℕ) → prev_at result id ≡ NONE }
-        ensures len { length result.links.items ≡ 0 }
+        ensures reserved { reserved result ≡ 0 }
         ensures first { result.first ≡ NONE }
     {
         LinkTable {
@@ -46,31 +46,42 @@ impl<A: Allocator> LinkTable<A> {
         }
     }
 
-    /// Returns the number of nodes that have links.
-    pub(crate) fn len(&self) -> usize
-        ensures { result ≡ length self.now.links.items }
+    /// Returns the number of nodes that there is memory for.
+    pub(crate) fn capacity(&self) -> usize
+        ensures { result ≡ reserved self.now }
     {
-        self.links.len()
+        self.links.capacity().min(NONE as usize)
     }
 
-    /// Grows the table to the links of `len` nodes in all. New nodes have no neighbours.
-    pub(crate) fn grow(&mut self, len: usize) -> Result<(), AllocError>
+    /// Reserves memory for the links of `len` nodes in all. The links themselves are made by `cover`, so no call makes many.
+    pub(crate) fn reserve(&mut self, len: usize) -> Result<(), AllocError>
         requires { IsNumbered self.old }
-        ensures ok { OnOk result (len ≤ length self.new.links.items) }
+        ensures ok { OnOk result (len ≤ reserved self.new) }
+        ensures more { reserved self.old ≤ reserved self.new }
         ensures step { Lengthened self.old self.new }
     {
-        if len <= self.links.len() {
+        if len <= self.capacity() {
             return Ok(());
         }
         if len > NONE as usize {
             return Err(AllocError);
         }
         self.links
-            .reserve_exact(len.saturating_sub(self.links.len()))?;
-        while self.links.len() < len {
+            .reserve_exact(len.saturating_sub(self.links.len()))
+    }
+
+    /// Makes links for the nodes up to this one, which there is memory for. New nodes have no neighbours.
+    #[inline]
+    pub(crate) fn cover(&mut self, id: usize)
+        requires numbered { IsNumbered self.old }
+        requires room { id < reserved self.old }
+        ensures here { id < length self.new.links.items }
+        ensures reserved { reserved self.new ≡ reserved self.old }
+        ensures step { Lengthened self.old self.new }
+    {
+        while self.links.len() <= id {
             self.links.push_reserved(APART);
         }
-        Ok(())
     }
 
     /// Takes a node out: its neighbours are linked to one another.
@@ -79,6 +90,7 @@ impl<A: Allocator> LinkTable<A> {
         requires here { id < length self.old.links.items }
         ensures step { IsPlace self.old (prev_at self.old id) → IsPlace self.old (next_at self.old id) → Unlinked self.old self.new id }
         ensures len { length self.new.links.items ≡ length self.old.links.items }
+        ensures reserved { reserved self.new ≡ reserved self.old }
     {
         let links = self.links.as_mut_slice();
         let Links { next, prev } = links[id];
@@ -101,6 +113,7 @@ impl<A: Allocator> LinkTable<A> {
         requires here { id < length self.old.links.items }
         ensures step { IsPlace self.old self.old.last → LinkedBack self.old self.new id }
         ensures len { length self.new.links.items ≡ length self.old.links.items }
+        ensures reserved { reserved self.new ≡ reserved self.old }
     {
         let last = self.last;
         let links = self.links.as_mut_slice();
@@ -123,6 +136,7 @@ impl<A: Allocator> LinkTable<A> {
         requires behind_here { behind < length self.old.links.items }
         ensures step { IsPlace self.old (prev_at self.old behind) → LinkedBefore self.old self.new id behind }
         ensures len { length self.new.links.items ≡ length self.old.links.items }
+        ensures reserved { reserved self.new ≡ reserved self.old }
     {
         let links = self.links.as_mut_slice();
         let prev = links[behind].prev;
