@@ -1,7 +1,7 @@
 -- Lemmas on an index in two tables: in which one an id stands, and what a change of one table leaves of both.
 use Rattle.std.proofs.Common.{◌≡◌, ◌∙◌, ◌<◌, ◌≤◌, ◌+◌, ◌-◌, ◌++◌, ◌||◌, ◌&&◌, ◌⊎◌, ℕ, Bool, true, false, nat_eq, nat_le, nat_lt, List, [], refl, sym, ap, inl, inr, subst, arith}
 use Rattle.std.specs.List.{list_any}
-use Rattle.std.proofs.lemmas.Bool.{and_from, and_left, and_parts, and_right, cases_Bool, eqb-false, eqb-true, false_from_ne_true, false≢true, le-leb, leb-true, lt-ltb, ltb-true, or_cases, or_from}
+use Rattle.std.proofs.lemmas.Bool.{and_from, and_left, and_parts, and_right, cases_Bool, cases_lt, eqb-false, eqb-true, false_from_ne_true, false≢true, le-leb, leb-true, lt-ltb, ltb-true, or_cases, or_from}
 use Rattle.std.proofs.lemmas.Bool.{or_left, or_parts, or_right}
 use Rattle.std.proofs.lemmas.List.Folds.{list_any-append}
 use Rattle.moka_list.specs.HashIndex.{HashIndex, candidates, is_candidate as stands, Adds as TableAdds, Removes as TableRemoves}
@@ -72,7 +72,7 @@ module _ {table smaller : HashIndex} {next : ℕ} (s : IsMoving table smaller ne
   added_smaller is step = (
     record {
       fits = subst (λ n. n ≤ table.ids) (sym step.ids) s.fits;
-      begun = subst (λ n. next ≤ n) (sym step.ids) s.begun;
+      begun = subst (λ n. (next < n) ⊎ (n ≡ 0) × (next ≡ 0)) (sym step.ids) s.begun;
       moved = λ h i c. subst (λ n. is_smaller next n i ≡ false) (sym step.ids) (s.moved h i c);
       unmoved = λ h i c.
           subst (λ n. is_smaller next n i ≡ true) (sym step.ids)
@@ -112,7 +112,7 @@ module _ {table smaller : HashIndex} {next : ℕ} (s : IsMoving table smaller ne
   removed_smaller is step = (
     record {
       fits = subst (λ n. n ≤ table.ids) (sym step.ids) s.fits;
-      begun = subst (λ n. next ≤ n) (sym step.ids) s.begun;
+      begun = subst (λ n. (next < n) ⊎ (n ≡ 0) × (next ≡ 0)) (sym step.ids) s.begun;
       moved = λ h i c. subst (λ n. is_smaller next n i ≡ false) (sym step.ids) (s.moved h i c);
       unmoved = λ h i c.
           subst (λ n. is_smaller next n i ≡ true) (sym step.ids)
@@ -158,7 +158,7 @@ pub begun_from : (table larger : HashIndex) → ((hash id : ℕ) → stands tabl
     → ((hash : ℕ) → candidates larger hash ≡ []) → table.ids ≤ larger.ids → IsMoving larger table 0
 begun_from table larger below empty fits = record {
   fits = fits;
-  begun = omega arith;
+  begun = elim (cases_lt 0 table.ids) [ | inl some ↦ inl some | inr none ↦ inr (omega arith, refl) ];
   moved = λ h i c. absurd (false≢true (sym (ap (list_any (nat_eq i)) (empty h)) ∙ c));
   unmoved = λ h i c. smaller_from 0 table.ids i (omega arith) (below h i c);
 }
@@ -254,6 +254,10 @@ module _ {table smaller : HashIndex} {next : ℕ} (s : IsMoving table smaller ne
         ids = comes.ids;
       },
     )
+
+-- no more ids are passed than there are
+pub passed_few : {table smaller : HashIndex} {next : ℕ} → IsMoving table smaller next → next ≤ smaller.ids
+passed_few s = elim s.begun [ | inl some ↦ omega arith | inr none ↦ let ended = none.1 in omega arith ]
 
 -- ---- a search
 
