@@ -1,8 +1,10 @@
 -- Lemmas on an index in two tables: in which one an id stands, and what a change of one table leaves of both.
-use Rattle.std.proofs.Common.{◌≡◌, ◌∙◌, ◌<◌, ◌≤◌, ◌+◌, ◌-◌, ◌++◌, ◌||◌, ◌&&◌, ◌⊎◌, ℕ, Bool, true, false, nat_eq, nat_le, nat_lt, List, [], refl, sym, ap, inl, inr, subst, arith}
+use Rattle.std.proofs.Common.{◌≡◌, ◌∙◌, ◌<◌, ◌≤◌, ◌+◌, ◌-◌, ◌++◌, ◌||◌, ◌⊎◌, ℕ, Bool, true}
+use Rattle.std.proofs.Common.{false, nat_eq, nat_le, nat_lt, [], refl, sym, ap, inl, inr, subst, arith}
 use Rattle.std.specs.List.{list_any}
-use Rattle.std.proofs.lemmas.Bool.{and_from, and_left, and_parts, and_right, cases_Bool, cases_lt, eqb-false, eqb-true, false_from_ne_true, false≢true, le-leb, leb-true, lt-ltb, ltb-true, or_cases, or_from}
-use Rattle.std.proofs.lemmas.Bool.{or_left, or_parts, or_right}
+use Rattle.std.proofs.lemmas.Bool.{and_from, and_parts, cases_Bool, eqb-false, eqb-true}
+use Rattle.std.proofs.lemmas.Bool.{false_from_ne_true, false≢true, le-leb, leb-true, lt-ltb, ltb-true, or_from}
+use Rattle.std.proofs.lemmas.Bool.{or_left, or_right}
 use Rattle.std.proofs.lemmas.List.Folds.{list_any-append}
 use Rattle.moka_list.specs.HashIndex.{HashIndex, candidates, is_candidate as stands, Adds as TableAdds, Removes as TableRemoves}
 use Rattle.moka_list.specs.GrowingIndex.{GrowingIndex, Adds, KeepsAll, Removes}
@@ -151,25 +153,6 @@ module _ {table smaller : HashIndex} {next : ℕ} (s : IsMoving table smaller ne
     },
   )
 
--- ---- growth
-
--- a table becomes the smaller one of two, beside one without ids
-pub begun_from : (table larger : HashIndex) → ((hash id : ℕ) → stands table hash id ≡ true → id < table.ids)
-    → ((hash : ℕ) → candidates larger hash ≡ []) → table.ids ≤ larger.ids → IsMoving larger table 0
-begun_from table larger below empty fits = record {
-  fits = fits;
-  begun = elim (cases_lt 0 table.ids) [ | inl some ↦ inl some | inr none ↦ inr (omega arith, refl) ];
-  moved = λ h i c. absurd (false≢true (sym (ap (list_any (nat_eq i)) (empty h)) ∙ c));
-  unmoved = λ h i c. smaller_from 0 table.ids i (omega arith) (below h i c);
-}
-
--- once no id is left in the smaller table, none is a candidate there
-pub none_smaller : {table smaller : HashIndex} {next : ℕ} → IsMoving table smaller next → smaller.ids - next ≡ 0 → (hash id : ℕ)
-    → stands smaller hash id ≡ false
-none_smaller {table} {smaller} {next} s done hash id =
-    false_from_ne_true (stands smaller hash id) (λ c.
-    let p = smaller_parts next smaller.ids id (s.unmoved hash id c) in let from = p.0 in let below = p.1 in absurd (omega arith))
-
 -- ---- the next id
 
 module _ {table smaller : HashIndex} {next : ℕ} (s : IsMoving table smaller next) (left : next < smaller.ids) where
@@ -257,7 +240,7 @@ module _ {table smaller : HashIndex} {next : ℕ} (s : IsMoving table smaller ne
 
 -- no more ids are passed than there are
 pub passed_few : {table smaller : HashIndex} {next : ℕ} → IsMoving table smaller next → next ≤ smaller.ids
-passed_few s = elim s.begun [ | inl some ↦ omega arith | inr none ↦ let ended = none.1 in omega arith ]
+passed_few s = elim s.begun [ inl some ↦ omega arith | inr none ↦ let ended = none.1 in omega arith ]
 
 -- ---- a search
 

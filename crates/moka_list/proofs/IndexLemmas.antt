@@ -1,19 +1,13 @@
 -- Lemmas on an index beside a list of nodes: what each change of the nodes leaves of it.
-use Rattle.std.proofs.Common.{◌≡◌, ◌<◌, ◌≤◌, ◌∙◌, ◌++◌, ◌∷◌, ℕ, Bool, true, false, cond, nat_eq, List, [], Option, Some}
+use Rattle.std.proofs.Common.{◌≡◌, ◌<◌, ◌≤◌, ◌∙◌, ℕ, Bool, true, false, cond, nat_eq, List, [], Option, Some}
 use Rattle.std.proofs.Common.{None, is_some, IsSome, refl, sym, ap, inl, inr, arith, subst}
 use Rattle.std.proofs.lemmas.Bool.{cases_Bool, cond_both, cond-true, cond-false, eqb-true, false≢true}
-use Rattle.std.proofs.lemmas.Cmp.{nat_eq_equiv}
-use Rattle.std.proofs.lemmas.List.{append_assoc}
-use Rattle.std.proofs.lemmas.Map.Keys.{IsDistinct-head, IsDistinct-tail}
-use Rattle.std.specs.List.{IsDistinct, AllByRecursion}
+use Rattle.std.specs.List.{IsDistinct}
 use Rattle.std.specs.Map.{lookup, remove_entry, keys_of}
-use Rattle.moka_list.specs.Nodes.{first_id, next_id}
 use Rattle.moka_list.specs.IdList.{is_listed}
 use Rattle.moka_list.specs.GrowingIndex.{GrowingIndex, candidates, is_candidate, Adds, KeepsAll, Removes as Unlists}
 use Rattle.moka_list.specs.Indexed.{IsIndexed}
-use Rattle.moka_list.proofs.ItemLemmas.{lookup-push}
 use Rattle.moka_list.proofs.IdLemmas.{lookup-removed, not_none, some_parts}
-use Rattle.moka_list.proofs.WalkLemmas.{from_first, from_node, from_next, from_none}
 
 -- ---- what each change leaves
 

@@ -1,6 +1,6 @@
 -- How the ids of a growing index lie in its two tables. No public clause cites this module.
 use Rattle.std.specs.Prelude.{◌≡◌, ◌⊎◌, ℕ, ◌+◌, ◌-◌, ◌<◌, ◌≤◌, Bool, true, false, nat_le, nat_lt, ◌&&◌}
-use Rattle.moka_list.specs.HashIndex.{HashIndex, candidates, is_candidate}
+use Rattle.moka_list.specs.HashIndex.{HashIndex, is_candidate}
 
 -- whether the smaller table has an id, if it still has those from one on below a number
 abbrev pub is_smaller : ℕ → ℕ → ℕ → Bool

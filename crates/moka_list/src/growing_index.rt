@@ -13,8 +13,8 @@ use std::mem::swap;
 
 /// An index from hashes to ids whose table is replaced by a larger one in steps.
 ///
-/// After a growth the ids still stand in the smaller table. The owner moves them in the order of their numbers, so the number of an id tells its table. A search
-/// looks into both tables while there are two.
+/// After a growth the ids still stand in the smaller table. The owner moves them in the order of their numbers, so the number of an id tells its table. A
+/// search looks into both tables while there are two.
 #[derive(Drop)]
 pub struct GrowingIndex<A: Allocator = Global> {
     table: HashIndex<A>,
@@ -76,7 +76,7 @@ impl<A: Allocator> GrowingIndex<A> {
         self.next
     }
 
-    /// Makes room for ids below `ids`, if there is less. No ids may be left to move; if the index grows, those that there was room for are left then.
+    /// Makes room for ids below `ids`, if there is less. No ids may be left to move; if the index gets a larger table, those of the other are left then.
     ///
     /// This is the only call that takes memory, about 13 bytes an id. It is refused for more than `MAX_IDS` ids.
     pub fn grow(&mut self, ids: usize) -> Result<(), OutOfMemory>
@@ -86,7 +86,7 @@ impl<A: Allocator> GrowingIndex<A> {
         ensures more { self.old.ids ≤ self.new.ids }
         ensures err { OnErr result (self.new ≡ self.old) }
     {
-        if ids <= self.table.ids() {
+        if ids <= self.table.ids() || self.table.stretch(ids) {
             return Ok(());
         }
         swap(&mut self.table, &mut self.smaller);

@@ -1,11 +1,11 @@
 //! An index from hashes to ids, by open addressing over groups of ten slots. It keeps eight bits of each hash beside the id, so that its
 //! owner, which has the hash and the key of each id, is seldom asked in vain.
-ghost use Rattle.std.specs.Prelude.{◌≡◌, ℕ, ◌<◌, ◌≤◌, [], false, true, max, IsOk, OnOk, OnErr};
+ghost use Rattle.std.specs.Prelude.{◌≡◌, ℕ, ◌<◌, ◌≤◌, [], false, true, max, IsFalse, IsOk, IsTrue, OnOk, OnErr};
 ghost use Rattle.std.specs.Iterator.{YieldsFirst};
 ghost use Rattle.moka_list.specs.HashIndex.{candidates, is_candidate, Adds, FindsFirst, Removes};
 ghost use Rattle.moka_list.specs.IdList.{is_listed};
 
-use crate::constants::{FAR, MAX_IDS};
+use crate::constants::{FAR, MAX_IDS, SHARE};
 use crate::group::{Group, after, groups_of, probe_of};
 use crate::table::{count, fill_free, first_free, slot_of, take_back};
 use moka_common::error::OutOfMemory;
@@ -93,6 +93,23 @@ impl<A: Allocator> HashIndex<A> {
         ensures { FindsFirst (F.post eq) (candidates self.now hash) result }
     {
         self.candidates(hash).find(eq)
+    }
+
+    /// Makes room for ids below `ids` if the table is long enough for them, and returns whether there is room.
+    pub fn stretch(&mut self, ids: usize) -> bool
+        ensures same { self.new ≡ record self.old { ids = self.new.ids } }
+        ensures more { self.old.ids ≤ self.new.ids }
+        ensures room { IsTrue result → ids ≤ self.new.ids }
+        ensures full { IsFalse result → self.new ≡ self.old }
+    {
+        if ids <= self.ids {
+            return true;
+        }
+        if ids / SHARE >= self.groups.len() {
+            return false;
+        }
+        self.ids = ids;
+        true
     }
 
     /// Forgets all ids, and frees the memory.

@@ -1,11 +1,12 @@
 -- Calls as data: what each asks of the cache's machine, and which reply tells its answer.
-use Rattle.std.specs.Prelude.{◌≡◌, ◌⊎◌, ◌++◌, ℕ, List, [], ◌∷◌, Option, Some, None}
+use Rattle.std.specs.Prelude.{◌≡◌, ◌⊎◌, ◌++◌, ℕ, Bool, true, false, List, [], ◌∷◌, Option, Some, None}
+use Rattle.std.specs.Duration.{as_nanos}
 use Rattle.std.specs.declared.rc.Rc.{Rc}
 use Rattle.moka_unsync.specs.declared.runs.Call.{Call}
 use Rattle.moka_unsync.specs.declared.runs.Call.TheVariants as call
 use Rattle.moka_unsync.specs.declared.runs.Reply.{Reply}
 use Rattle.moka_unsync.specs.declared.runs.Reply.TheVariants as reply
-use Rattle.moka_unsync_model.specs.Step.{Answer, Request, Get, Peek, ContainsKey, Insert, Invalidate, Remove, InvalidateAll}
+use Rattle.moka_unsync_model.specs.Step.{Answer, Request, Get, Peek, ContainsKey, Insert, Invalidate, Remove, InvalidateAll, InvalidateEntriesIf}
 use Rattle.moka_unsync_model.specs.Step.{EntryCount, WeightedSize, Found, Truth, Done, OutOfMemory, Pairs, Number}
 
 module _ {V A : Type 0} where
@@ -19,16 +20,19 @@ module _ {V A : Type 0} where
   TellsFound (Some value) told = (told ≡ reply.OutOfMemory) ⊎ HasOwner value told
 
 module _ {K V A : Type 0} where
-  -- what a call asks: a get or insert at first a get
+  -- what a call asks: a get or insert at first a get, and a modification that finds nothing a look
   abbrev pub request_of : Call K V A → Request K (Rc V A)
   request_of (call.Get key now) = Get key now
   request_of (call.Peek key now) = Peek key now
   request_of (call.Contains key now) = ContainsKey key now
   request_of (call.Insert key value now) = Insert key value None now
+  request_of (call.InsertWithTimeToLive key value time_to_live now) = Insert key value (Some (as_nanos time_to_live)) now
+  request_of (call.Modify key value now) = ContainsKey key now
   request_of (call.GetOrInsert key value now) = Get key now
   request_of (call.Invalidate key now) = Invalidate key now
   request_of (call.Remove key now) = Remove key now
   request_of call.InvalidateAll = InvalidateAll
+  request_of (call.RemoveExpired now) = InvalidateEntriesIf []
   request_of call.EntryCount = EntryCount
   request_of call.WeightedSize = WeightedSize
 
@@ -54,12 +58,33 @@ module _ {K V A : Type 0} where
       (asked ≡ Get key now ∷ Insert key value None now ∷ [])
       × (((answers ≡ Found None ∷ Done ∷ []) × HasOwner value told) ⊎ ((answers ≡ Found None ∷ OutOfMemory ∷ []) × (told ≡ reply.OutOfMemory)))
 
-  -- what a call asks of the machine, what is answered, and a reply that tells it: one request, but of a get or insert one or two
+  -- what a call asks that is one request, what is answered, and a reply that tells it
+  abbrev pub IsOne : Request K (Rc V A) → List (Request K (Rc V A)) → List (Answer K (Rc V A)) → Reply V A → Type 0
+  IsOne request asked answers told =
+      (answer : Answer K (Rc V A)) × (asked ≡ request ∷ []) × (answers ≡ answer ∷ []) × Tells request answer told
+
+  -- an insert with a time to live of its own, or in a cache without one nothing
+  abbrev pub IsTimedInsert : Request K (Rc V A) → List (Request K (Rc V A)) → List (Answer K (Rc V A)) → Reply V A → Type 0
+  IsTimedInsert request asked answers told =
+      IsOne request asked answers told ⊎ (asked ≡ []) × (answers ≡ []) × (told ≡ reply.NoTimeToLive)
+
+  -- a modification is an insert of the value at hand, or a look at a key that isn't there
+  abbrev pub IsModification : K → Rc V A → ℕ → List (Request K (Rc V A)) → List (Answer K (Rc V A)) → Reply V A → Type 0
+  IsModification key value now asked answers told =
+      ((asked ≡ Insert key value None now ∷ []) × (answers ≡ Done ∷ []) × (told ≡ reply.Bool true))
+      ⊎ ((asked ≡ ContainsKey key now ∷ []) × (answers ≡ Truth false ∷ []) × (told ≡ reply.Bool false))
+
+  -- what a call asks of the machine, what is answered, and a reply that tells it: one request, but of a get or insert one or two. The removal of the expired
+  -- entries is a conditional invalidation
   abbrev pub IsServed : Call K V A → List (Request K (Rc V A)) → List (Answer K (Rc V A)) → Reply V A → Type 0
   IsServed (call.GetOrInsert key value now) asked answers told =
       IsGetAlone key now asked answers told ⊎ IsInsertBehind key value now asked answers told
-  IsServed call asked answers told =
-      (answer : Answer K (Rc V A)) × (asked ≡ request_of call ∷ []) × (answers ≡ answer ∷ []) × Tells (request_of call) answer told
+  IsServed (call.InsertWithTimeToLive key value time_to_live now) asked answers told =
+      IsTimedInsert (Insert key value (Some (as_nanos time_to_live)) now) asked answers told
+  IsServed (call.Modify key value now) asked answers told = IsModification key value now asked answers told
+  IsServed (call.RemoveExpired now) asked answers told =
+      (chosen : List Bool) × IsOne (InvalidateEntriesIf chosen) asked answers told
+  IsServed call asked answers told = IsOne (request_of call) asked answers told
 
   -- the same of a list of calls, one after another
   abbrev pub AreServed : List (Call K V A) → List (Request K (Rc V A)) → List (Answer K (Rc V A)) → List (Reply V A) → Type 0

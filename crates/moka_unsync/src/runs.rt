@@ -5,12 +5,14 @@ ghost use Rattle.moka_unsync.specs.Runs.{AreServed, IsServed, TellsFound};
 ghost use Rattle.moka_unsync_model.specs.Step.{Answer, Request, Runs};
 
 use crate::cache::Cache;
+use crate::error::TimedInsertError;
 use moka_common::error::OutOfMemory;
 use moka_common::time::Instant;
 use moka_common::weigh::Weigh;
 use std::alloc::{Allocator, Global};
 use std::hash::{BuildHasher, Hash};
 use std::rc::Rc;
+use std::time::Duration;
 
 /// A call of a cache, which `run` makes. A value is shared, so that a reply can have it beside the cache.
 #[derive(Debug, Drop)]
@@ -32,6 +34,18 @@ pub enum Call<K: Drop, V: Drop, A: Allocator + Drop = Global> {
         value: Rc<V, A>,
         now: Instant,
     },
+    InsertWithTimeToLive {
+        key: K,
+        value: Rc<V, A>,
+        time_to_live: Duration,
+        now: Instant,
+    },
+    /// As `modify` with a function that puts this value in place of the key's. The reply is `Bool(true)` if the key has one, else `Bool(false)`.
+    Modify {
+        key: K,
+        value: Rc<V, A>,
+        now: Instant,
+    },
     /// As `get_or_insert_with`: the value is what is inserted if the key has none.
     GetOrInsert {
         key: K,
@@ -48,6 +62,9 @@ pub enum Call<K: Drop, V: Drop, A: Allocator + Drop = Global> {
         now: Instant,
     },
     InvalidateAll,
+    RemoveExpired {
+        now: Instant,
+    },
     EntryCount,
     WeightedSize,
 }
@@ -59,6 +76,8 @@ pub enum Reply<V: Drop, A: Allocator + Drop = Global> {
     Bool(bool),
     Done,
     Number(u64),
+    /// The cache has no time to live, so an insert with one of its own changed nothing.
+    NoTimeToLive,
     /// Memory was refused, for an insert or for one more owner of a value. A refused insert changes nothing but the capacity. If a `get`, `peek` or
     /// `get_or_insert_with` can't share its value, the look-up is done and nothing is inserted.
     OutOfMemory,
@@ -125,6 +144,19 @@ fn reply_to<
             Ok(()) => Reply::Done,
             Err(_) => Reply::OutOfMemory,
         },
+        Call::InsertWithTimeToLive {
+            key,
+            value,
+            time_to_live,
+            now,
+        } => match cache.insert_with_time_to_live(key, value, time_to_live, now) {
+            Ok(()) => Reply::Done,
+            Err(TimedInsertError::NoTimeToLive) => Reply::NoTimeToLive,
+            Err(TimedInsertError::OutOfMemory) => Reply::OutOfMemory,
+        },
+        Call::Modify { key, value, now } => {
+            Reply::Bool(cache.modify(&key, now, |old: &mut Rc<V, A>| *old = value))
+        }
         Call::GetOrInsert { key, value, now } => {
             match cache.get_or_insert_with(key, now, || value) {
                 Ok(copy) => Reply::Found(Some(copy)),
@@ -138,6 +170,10 @@ fn reply_to<
         Call::Remove { key, now } => Reply::Found(cache.remove(&key, now)),
         Call::InvalidateAll => {
             cache.invalidate_all();
+            Reply::Done
+        }
+        Call::RemoveExpired { now } => {
+            cache.remove_expired(now);
             Reply::Done
         }
         Call::EntryCount => Reply::Number(cache.entry_count()),

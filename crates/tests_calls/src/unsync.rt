@@ -184,11 +184,13 @@ fn gets_or_inserts(alloc: Global) -> Result<Vec<Call<u64, u64>>, OutOfMemory> {
     Ok(calls)
 }
 
-/// A reply as a number: the value that is found, 100 more than a count, and 1000 for any other.
+/// A reply as a number: the value that is found, 100 more than a count, 200 and 201 for a truth, 300 without a time to live, and 1000 for any other.
 fn told(reply: &Reply<u64>) -> u64 {
     match reply {
         Reply::Found(Some(value)) => **value,
         Reply::Number(number) => number.saturating_add(100),
+        Reply::Bool(answer) => 200 + u64::from(*answer),
+        Reply::NoTimeToLive => 300,
         _ => 1000,
     }
 }
@@ -204,5 +206,66 @@ fn a_run_gets_or_inserts(rt: HostRuntime) -> Result<(), Fail> {
         *place = told(reply);
     }
     assert_eq!(rt; (replies.len(), numbers), (5, [5, 5, 7, 1000, 101]));
+    Ok(())
+}
+
+/// Returns calls on key 1 with a time to live of its own: two inserts, a modification and looks at it, a removal of expired entries, and a modification.
+fn timed_calls(alloc: Global) -> Result<Vec<Call<u64, u64>>, OutOfMemory> {
+    let (key, early, late) = (1, Instant::from_secs(1), Instant::from_secs(30));
+    let mut calls = Vec::new(alloc);
+    for (seconds, number) in [(5, 5), (2, 6)] {
+        let Ok(value) = Rc::new(alloc, number) else {
+            return Err(OutOfMemory);
+        };
+        let time_to_live = Duration::from_secs(seconds);
+        calls.push(Call::InsertWithTimeToLive {
+            key,
+            value,
+            time_to_live,
+            now: start(),
+        })?;
+    }
+    calls.push(Call::Get { key, now: early })?;
+    for (now, number) in [(early, 7), (late, 8)] {
+        let Ok(value) = Rc::new(alloc, number) else {
+            return Err(OutOfMemory);
+        };
+        calls.push(Call::Modify { key, value, now })?;
+        let now = Instant::from_secs(5);
+        calls.push(Call::Get { key, now })?;
+        calls.push(Call::RemoveExpired { now: late })?;
+        calls.push(Call::EntryCount)?;
+    }
+    Ok(calls)
+}
+
+/// The replies to these calls as numbers.
+fn timed_replies(alloc: Global, time_to_live: Option<Duration>) -> Result<[u64; 11], Fail> {
+    let mut builder = CacheBuilder::new(alloc, 10);
+    if let Some(duration) = time_to_live {
+        builder = builder.time_to_live(duration);
+    }
+    let mut cache: Cache<u64, Rc<u64>> = builder.build()?;
+    let replies = run(alloc, &mut cache, timed_calls(alloc)?)?;
+    let mut numbers = [0u64; 11];
+    for (place, reply) in numbers.iter_mut().zip(&replies) {
+        *place = told(reply);
+    }
+    Ok(numbers)
+}
+
+// The second insert's 2 seconds end before 5, but the modification gives the entry the cache's 20. At 30 it is gone, so the second one finds nothing.
+#[test]
+fn a_run_inserts_for_a_time_and_modifies(rt: HostRuntime) -> Result<(), Fail> {
+    let timed = timed_replies(rt.alloc(), Some(Duration::from_secs(20)))?;
+    assert_eq!(rt;
+        timed,
+        [1000, 1000, 6, 201, 7, 1000, 100, 200, 1000, 1000, 100]
+    );
+    let untimed = timed_replies(rt.alloc(), None)?;
+    assert_eq!(rt;
+        untimed,
+        [300, 300, 1000, 200, 1000, 1000, 100, 200, 1000, 1000, 100]
+    );
     Ok(())
 }

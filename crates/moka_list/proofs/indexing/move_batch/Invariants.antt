@@ -1,4 +1,4 @@
-use Rattle.std.proofs.Common.{◌≡◌, ◌≤◌}
+use Rattle.std.proofs.Common.{◌≡◌}
 use Rattle.moka_list.specs.Indexed.{IsIndexed}
 use Rattle.moka_list.proofs.indexing.move_batch.Given as goal
 

@@ -1,10 +1,13 @@
-use Rattle.std.proofs.Common.{ap, inl, inr, refl, rules, subst}
+use Rattle.std.proofs.Common.{◌≡◌, ap, inl, inr, refl, rules, subst}
 use Rattle.moka_common.specs.Keys.{Keys, keys_by}
 use Rattle.moka_unsync.specs.declared.runs.Call.TheVariants as call
 use Rattle.moka_unsync_model.specs.Lookup.{found_by_get, found_by_peek}
+use Rattle.moka_unsync_model.specs.CacheState.{CacheState}
 use Rattle.moka_unsync.specs.Runs.{TellsFound}
+use Rattle.moka_unsync.specs.Timed.{IsTimedRefused}
+use Rattle.moka_unsync.specs.declared.error.TimedInsertError.{TimedInsertError}
 use Rattle.moka_unsync_model.specs.Step.{Done, Found, Truth, Number, OutOfMemory}
-use Rattle.moka_unsync.proofs.RunLemmas.{got, inserted, stepped, unowned, unroomed}
+use Rattle.moka_unsync.proofs.RunLemmas.{got, inserted, modified, stepped, swept, timed, unowned, unroomed, untimed}
 use Rattle.moka_unsync.proofs.runs.reply_to.Given.{Over}
 use Rattle.moka_unsync.proofs.runs.reply_to.Goals as goal
 
@@ -91,3 +94,41 @@ pub returns-in-InvalidateAll-clause-step : goal.returns-in-InvalidateAll-clause-
 returns-in-InvalidateAll-clause-step g c =
     stepped (keys g) g.W.Weigh.weighs c.args.cache.now c.invalidate_all.new.self _ c.args.call call.InvalidateAll Done c.in-InvalidateAll.is
     (refl, c.invalidate_all.ensures.step) (_, refl, refl, refl)
+
+-- what is refused for a known reason
+refused_of : {K V S W : Type 0} (old new : CacheState K V S W) {error known : TimedInsertError} → error ≡ known → IsTimedRefused error old new
+    → IsTimedRefused known old new
+refused_of old new is refused = subst (λ e. IsTimedRefused e old new) is refused
+
+pub returns-in-Ok-insert_with_time_to_live-clause-step : goal.returns-in-Ok-insert_with_time_to_live-clause-step
+returns-in-Ok-insert_with_time_to_live-clause-step g c =
+    let asked = c.in-InsertWithTimeToLive in
+    timed (keys g) g.W.Weigh.weighs c.args.cache.now c.insert_with_time_to_live.new.self _ c.args.call asked.key asked.value asked.time_to_live
+    asked.now Done asked.is (inl (refl, c.in-Ok-insert_with_time_to_live.ensures.step.put)) refl
+
+pub returns-in-Err-NoTimeToLive-clause-step : goal.returns-in-Err-NoTimeToLive-clause-step
+returns-in-Err-NoTimeToLive-clause-step g c =
+    let asked = c.in-InsertWithTimeToLive in
+    untimed (keys g) g.W.Weigh.weighs c.args.cache.now c.insert_with_time_to_live.new.self _ c.args.call asked.key asked.value asked.time_to_live
+    asked.now asked.is refl (refused_of _ _ c.in-Err-NoTimeToLive.field-0-is c.in-Err-NoTimeToLive.ensures.err).1
+
+pub returns-in-Err-OutOfMemory-clause-step : goal.returns-in-Err-OutOfMemory-clause-step
+returns-in-Err-OutOfMemory-clause-step g c =
+    let asked = c.in-InsertWithTimeToLive in
+    timed (keys g) g.W.Weigh.weighs c.args.cache.now c.insert_with_time_to_live.new.self _ c.args.call asked.key asked.value asked.time_to_live
+    asked.now OutOfMemory asked.is (inr (
+      refl,
+      (refused_of _ _ c.in-Err-OutOfMemory.field-0-is c.in-Err-OutOfMemory.ensures.err).1,
+    )) refl
+
+pub returns-in-Modify-clause-step : goal.returns-in-Modify-clause-step
+returns-in-Modify-clause-step g c =
+    let asked = c.in-Modify in
+    modified (keys g) g.W.Weigh.weighs c.args.cache.now c.modify.new.self _ c.args.call asked.key asked.value asked.now _ c.modify.result asked.is
+    refl (λ before after changed. search (rules, changed)) c.modify.ensures.step
+
+pub returns-in-RemoveExpired-clause-step : goal.returns-in-RemoveExpired-clause-step
+returns-in-RemoveExpired-clause-step g c =
+    let asked = c.in-RemoveExpired in
+    swept (keys g) g.W.Weigh.weighs c.args.cache.now c.remove_expired.new.self _ c.args.call asked.now g.met.K.Eq.laws asked.is refl
+    c.remove_expired.ensures.step

@@ -1,4 +1,4 @@
-use Rattle.std.proofs.Common.{◌+◌, ◌≤◌, ap, arith, length, refl, rules, ◌∙◌}
+use Rattle.std.proofs.Common.{◌+◌, ◌≤◌, ap, arith, refl, rules, ◌∙◌}
 use Rattle.std.proofs.lemmas.Result.{on_ok_weaker}
 use Rattle.slab.specs.Slab.{slab_len}
 use Rattle.moka_list.specs.Links.{reserved}
