@@ -1,9 +1,10 @@
 -- What a contract sees of a `GrowingIndex`.
-use Rattle.std.specs.Prelude.{◌≡◌, ℕ, Bool, true, false, nat_eq, List, ◌++◌}
+use Rattle.std.specs.Prelude.{◌≡◌, ℕ, Bool, true, false, nat_eq, nat_le, filter, List, ◌++◌}
 use Rattle.std.specs.List.{list_any}
 use Rattle.moka_list.specs.HashIndex.{HashIndex, candidates as table_candidates}
 
--- the two tables; the number below which ids can be added; and how many ids of the smaller table are to be moved, and the first of them
+-- the two tables; the number below which ids can be added; and how many ids of the smaller table are to be moved, and the first of them. What the smaller
+-- table still has of those before it doesn't count
 pub record GrowingIndex : Type 0 where
   pub table : HashIndex
   pub smaller : HashIndex
@@ -13,7 +14,7 @@ pub record GrowingIndex : Type 0 where
 
 -- the ids that may have this hash
 abbrev pub candidates : GrowingIndex → ℕ → List ℕ
-candidates index hash = table_candidates index.table hash ++ table_candidates index.smaller hash
+candidates index hash = table_candidates index.table hash ++ filter (nat_le index.next) (table_candidates index.smaller hash)
 
 -- the id may have this hash
 abbrev pub is_candidate : GrowingIndex → ℕ → ℕ → Bool

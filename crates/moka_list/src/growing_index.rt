@@ -1,7 +1,7 @@
 //! An index that grows in steps: its owner moves a few ids to the larger table with each insert, and no call moves all of them.
-ghost use Rattle.std.specs.Prelude.{◌≡◌, ℕ, ◌+◌, ◌<◌, ◌≤◌, [], false, true, OnErr, OnOk};
+ghost use Rattle.std.specs.Prelude.{◌≡◌, ℕ, ◌+◌, ◌<◌, ◌≤◌, [], false, true, filter, nat_le, OnErr, OnOk};
 ghost use Rattle.moka_list.specs.GrowingIndex.{Adds, KeepsAll, Removes, candidates, is_candidate};
-ghost use Rattle.moka_list.specs.HashIndex.{FindsFirst, candidates as table_candidates, is_candidate as stands};
+ghost use Rattle.moka_list.specs.HashIndex.{FindsFirst, candidates as table_candidates};
 ghost use Rattle.moka_list.specs.IdList.{is_listed};
 ghost use Rattle.moka_list.specs.Moving.{Passes, is_smaller};
 
@@ -18,7 +18,7 @@ use std::mem::swap;
 #[derive(Drop)]
 pub struct GrowingIndex<A: Allocator = Global> {
     table: HashIndex<A>,
-    // Without ids and memory, but for the time after a growth. Then it has those from `next` on.
+    // Without ids and memory, but for the time after a growth. Then it has those from `next` on; what it has of others doesn't count.
     smaller: HashIndex<A>,
     next: usize,
 }
@@ -104,12 +104,10 @@ impl<A: Allocator> GrowingIndex<A> {
 
     /// Moves the next id to the larger table, under its hash. After the last one it frees the smaller table.
     pub fn move_next(&mut self, hash: u64)
-        requires left { 0 < self.old.left }
-        requires under { is_candidate self.old hash self.old.next ≡ true }
+        requires { 0 < self.old.left }
         ensures step { Adds self.old self.old.next hash self.new }
         ensures left { self.new.left + 1 ≡ self.old.left }
     {
-        self.smaller.remove(self.next, hash);
         self.table.add(self.next, hash);
         self.next = pass(&mut self.smaller, self.next);
     }
@@ -133,6 +131,7 @@ impl<A: Allocator> GrowingIndex<A> {
         Candidates {
             first: self.table.candidates(hash),
             smaller: &self.smaller,
+            next: self.next,
             hash,
         }
     }
@@ -181,8 +180,7 @@ impl<A: Allocator> GrowingIndex<A> {
 
 /// Returns the id after `next` of a smaller table, whose ids from there on are left. After the last one it frees the table and returns 0.
 fn pass<A: Allocator>(smaller: &mut HashIndex<A>, next: usize) -> usize
-    requires left { next < smaller.old.ids }
-    requires passed { (hash id : ℕ) → stands smaller.old hash id ≡ true → is_smaller (next + 1) smaller.old.ids id ≡ true }
+    requires { next < smaller.old.ids }
     ensures { Passes smaller.old next result smaller.new }
 {
     let ids = smaller.ids();
@@ -199,16 +197,17 @@ fn pass<A: Allocator>(smaller: &mut HashIndex<A>, next: usize) -> usize
 pub struct Candidates<'a, A: Allocator = Global> {
     first: TableCandidates<'a>,
     smaller: &'a HashIndex<A>,
+    next: usize,
     hash: u64,
 }
 
 impl<'a, A: Allocator> Model for Candidates<'a, A> {
-    ghost use Rattle.std.specs.Prelude.{ℕ, List, ◌++◌};
+    ghost use Rattle.std.specs.Prelude.{ℕ, List, ◌++◌, filter, nat_le};
     ghost use Rattle.moka_list.specs.HashIndex.{candidates};
 
     ghost Value = { List ℕ };
 
-    ghost view = { λ it. it.first ++ candidates it.smaller.now it.hash };
+    ghost view = { λ it. it.first ++ filter (nat_le it.next) (candidates it.smaller.now it.hash) };
 }
 
 impl<'a, A: Allocator> Candidates<'a, A> {
@@ -218,7 +217,12 @@ impl<'a, A: Allocator> Candidates<'a, A> {
         requires { (id : ℕ) → is_listed self id ≡ true → F.pre eq id }
         ensures { FindsFirst (F.post eq) self.entry result }
     {
-        let (mut first, smaller, hash) = (self.first, self.smaller, self.hash);
+        let Candidates {
+            mut first,
+            smaller,
+            next,
+            hash,
+        } = self;
         while let Some(id) = first.next() {
             if eq(id) {
                 return Some(id);
@@ -227,20 +231,27 @@ impl<'a, A: Allocator> Candidates<'a, A> {
         if smaller.ids() == 0 {
             return None;
         }
-        find_in(smaller, hash, eq)
+        find_from(smaller, next, hash, eq)
     }
 }
 
-/// Searches a table, as its `find` does. Most searches end before this, so it is no part of them.
+/// Searches a table for an id from `next` on that passes the test. Most searches end before this, so it is no part of them.
 #[cold]
 #[inline(never)]
-fn find_in<A: Allocator, F: Fn(usize) -> bool>(
+fn find_from<A: Allocator, F: Fn(usize) -> bool>(
     table: &HashIndex<A>,
+    next: usize,
     hash: u64,
     eq: F,
 ) -> Option<usize>
-    requires { (id : ℕ) → stands table.now hash id ≡ true → F.pre eq id }
-    ensures { FindsFirst (F.post eq) (table_candidates table.now hash) result }
+    requires { (id : ℕ) → is_listed (filter (nat_le next) (table_candidates table.now hash)) id ≡ true → F.pre eq id }
+    ensures { FindsFirst (F.post eq) (filter (nat_le next) (table_candidates table.now hash)) result }
 {
-    table.find(hash, eq)
+    let mut left = table.candidates(hash);
+    while let Some(id) = left.next() {
+        if next <= id && eq(id) {
+            return Some(id);
+        }
+    }
+    None
 }

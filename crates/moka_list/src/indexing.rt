@@ -8,8 +8,8 @@ use moka_common::error::OutOfMemory;
 use moka_common::hash::Hashed;
 use std::alloc::Allocator;
 
-/// The number of ids that an insert moves.
-const BATCH: usize = 4;
+/// The number of ids that an insert moves: after a growth by a quarter the smaller table is gone before the larger one is full.
+const BATCH: usize = 8;
 
 /// Grows an index to take ids below `ids`. The ids of all nodes stay in the smaller table; `move_some` moves them. If some are still in an even smaller one,
 /// they are moved first.
