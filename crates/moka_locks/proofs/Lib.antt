@@ -1,7 +1,9 @@
 pub mod MomentLemmas
 pub mod StepLemmas
 pub mod TellLemmas
+pub mod HidingLemmas
 pub mod VisitLemmas
+pub mod TakeLemmas
 pub mod TurnLemmas
 pub mod SnapshotLemmas
 pub mod WritesLeftLemmas

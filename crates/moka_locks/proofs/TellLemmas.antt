@@ -21,11 +21,8 @@ use Rattle.moka_history.specs.LastWrite.{IsCurrent}
 use Rattle.moka_history.specs.Laws.{Lacks}
 use Rattle.moka_history.proofs.LawLemmas.{hits_are_current, inserts_stand, led_valid, misses_have_a_reason, remove_as_get}
 use Rattle.moka_locks.specs.History.{AnyWeight, Every, Knows, Log, Makes, MakesIn, Puts, found_at, place_of, rest, steps}
+use Rattle.moka_locks.proofs.HidingLemmas.{every_follows}
 use Rattle.moka_locks.specs.Tells.{Gets, Hits, Looks, Misses, Stands, TellsClone}
-
-every_follows : {X : Type 0} {P Q : X → Type 0} (xs : List X) → ((x : X) → P x → Q x) → Every P xs → Every Q xs
-every_follows [] follows all = tt
-every_follows (x ∷ xs) follows all = (follows x all.0, every_follows xs follows all.1)
 
 module _ {K V S : Type 0} (keys : Keys K S) (laws : IsEquivalence keys.eq) (settings : Settings S) where
   module _ (v w : Knows K V S) (i : ℕ) (did : Act K V) (m : MakesIn keys settings v i did w) where

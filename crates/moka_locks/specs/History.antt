@@ -1,5 +1,5 @@
 -- The history of each shard of a cache: the visits to it, the last one first, and what a visitor knows of it.
-use Rattle.std.specs.Prelude.{◌≡◌, ◌≢◌, ℕ, ◌*◌, Bool, List, [], ◌∷◌, ◌++◌, Option, option_map, Result, Ok, Err, OnOk}
+use Rattle.std.specs.Prelude.{◌≡◌, ◌≢◌, ◌≤◌, ℕ, ◌*◌, Bool, List, [], ◌∷◌, ◌++◌, Option, Some, None, IfSome, option_map, Result, Ok, Err, OnOk}
 use mathlib.Core.Option.{some}
 use lib.ListN.{get_elem?}
 use Rattle.atomic_table.specs.Seated.{TableId}
@@ -14,7 +14,10 @@ use Rattle.moka_row.specs.Visits.{Known, at, visits_by}
 use Rattle.moka_sync_model.specs.Parts.{ShardState}
 use Rattle.moka_shard.specs.Shard.{Shard, state_of, unexpired}
 use Rattle.moka_shard.specs.ShardStep.{IsInsert}
-use Rattle.moka_history.specs.Steps.{Act, Step, Gets, Looks, Inserts, Invalidates, Takes, Leads, new_shard}
+use Rattle.moka_history.specs.Steps.{Act, Step, Gets, Looks, Copies, Inserts, Invalidates, Takes, Leads, new_shard}
+use Rattle.moka_locks.specs.declared.account.Kept.{Kept}
+use Rattle.moka_locks.specs.Cache.{Plan}
+use Rattle.moka_locks.specs.Moments.{latest}
 
 -- the steps of a visit
 abbrev pub Visit : Type 0 → Type 0 → Type 0 → Type 0
@@ -26,7 +29,7 @@ Log K V S = List (ℕ × Visit K V S)
 
 -- what a visitor knows: of each shard a history that it has seen, and its own visits there
 abbrev pub Knows : Type 0 → Type 0 → Type 0 → Type 0
-Knows K V S = Known (Visit K V S) (Settings S)
+Knows K V S = Known (Visit K V S) (Plan S)
 
 -- a table has the shards of a cache
 abbrev pub IsSized : TableId → Type 0
@@ -41,6 +44,23 @@ steps (visit ∷ log) = visit.1 ++ steps log
 abbrev pub Every : {X : Type 0} → (X → Type 0) → List X → Type 0
 Every P [] = Unit {0}
 Every P (x ∷ xs) = P x × Every P xs
+
+-- the moment by which a call hides: what was written or used before it is not found
+abbrev pub moment_of : {K V : Type 0} → Act K V → Option ℕ
+moment_of (Gets key now valid_after found) = Some valid_after
+moment_of (Looks key now valid_after there) = Some valid_after
+moment_of (Copies now valid_after pairs) = Some valid_after
+moment_of (Takes key now valid_after found left) = Some valid_after
+moment_of act = None
+
+-- a step hides by no moment after this one
+abbrev pub HidesUpTo : {K V S : Type 0} → ℕ → Step K V S → Type 0
+HidesUpTo bound step = IfSome (moment_of step.act) (λ moment. moment ≤ bound)
+
+-- no step hides less than one before it
+abbrev pub HidesMore : {K V S : Type 0} → List (Step K V S) → Type 0
+HidesMore [] = Unit {0}
+HidesMore (step ∷ earlier) = IfSome (moment_of step.act) (λ moment. Every (HidesUpTo moment) earlier) × HidesMore earlier
 
 -- all but the first
 abbrev pub rest : {X : Type 0} → List X → List X
@@ -69,11 +89,12 @@ module _ {K V S : Type 0} (keys : Keys K S) (settings : Settings S) where
   IsOfShard i (Takes key now valid_after found left) = place_of keys settings key ≡ i
   IsOfShard i act = Unit {0}
 
-  -- the steps of a history lead from a new shard to this one, and are of its keys
+  -- the steps of a history lead from a new shard to this one, are of its keys, and each hides no less than those before it
   pub record IsLedBy (i : ℕ) (log : Log K V S) (shard : Shard K V S) : Type 0 where
     pub first : ℕ
     pub led : Leads keys AnyWeight settings (new_shard settings i first) (steps log) (state_of shard)
     pub own : Every (λ step. IsOfShard i step.act) (steps log)
+    pub hides : HidesMore (steps log)
 
   -- A visit of one step stands behind all that the visitor had seen there, and behind what others did since. With the steps before it, it is a history of one
   -- shard from a new one on.
@@ -93,10 +114,6 @@ module _ {K V S : Type 0} (keys : Keys K S) (settings : Settings S) where
     pub made : MakesIn old i act new
     pub others : (j : ℕ) → j ≢ i → SameIn old j new
 
-  -- new shards
-  abbrev pub AreShards : List (Shard K V S) → Type 0
-  AreShards shards = (i : ℕ) (x : Shard K V S) → get_elem? shards i ≡ some x → IsLedBy i [] x
-
   -- an insert, in the shard of its key: where it is accepted, the weight is one that the weigher returns
   pub record Puts (weighs : K → V → ℕ → Type 0) (old : Knows K V S) (key : K) (value : V) (now : ℕ) (answer : Result Ticket InsertError) (new : Knows K V S)
       : Type 0 where
@@ -106,6 +123,17 @@ module _ {K V S : Type 0} (keys : Keys K S) (settings : Settings S) where
     pub weighed : OnOk answer (weighs key value weight)
     pub step : IsInsert made.made.step.before (keys.hash_of settings.hash_state key) key value weight now refused
         (entry_at keys.eq key made.made.step.before.entries) answer made.made.step.after
+
+module _ {K V S : Type 0} (keys : Keys K S) (plan : Plan S) where
+  -- a shard in its slot is what its history leads to, and its seat at the moments has seen all by which the steps hide
+  pub record IsKeptBy (i : ℕ) (log : Log K V S) (kept : Kept (Shard K V S)) : Type 0 where
+    pub led : IsLedBy keys plan.settings i log kept.shard
+    pub seat : (kept.witness.table_id ≡ plan.moments) × (kept.witness.me.1 ≡ [])
+    pub hides : Every (HidesUpTo (latest kept.witness.me.0.seen)) (steps log)
+
+  -- new shards
+  abbrev pub AreShards : List (Kept (Shard K V S)) → Type 0
+  AreShards shards = (i : ℕ) (x : Kept (Shard K V S)) → get_elem? shards i ≡ some x → IsKeptBy i [] x
 
 -- what a get finds at a shard: the value and the ticket of the key's entry, if it is live
 abbrev pub found_at : {K V S : Type 0} → (K → K → Bool) → Settings S → ShardState K V S → K → ℕ → ℕ → Option (V × Ticket)

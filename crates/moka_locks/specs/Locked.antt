@@ -23,7 +23,7 @@ use Rattle.moka_sync_model.specs.WholeCall.{Log}
 use Rattle.moka_sync_model.specs.Steps.{Caller, kind_of}
 use Rattle.moka_locks.specs.declared.locked.Pending.{Pending}
 use Rattle.moka_locks.specs.declared.locked.Pending.TheVariants as pending
-use Rattle.moka_locks.specs.Cache.{Cache}
+use Rattle.moka_locks.specs.Cache.{Cache, plan_of}
 use Rattle.moka_locks.specs.History.{Knows, Makes, Puts, place_of}
 use Rattle.moka_locks.specs.Moments.{Appends, GoesOn, latest}
 use Rattle.moka_locks.specs.MaintenanceTurn.{IsWorkingTurn, Working, empty_handed}
@@ -55,7 +55,7 @@ module _ {K V S W : Type 0} where
   -- a call of the cache itself is one of a guest that has made no other
   abbrev pub CallsByGuest : Cache S W → (Locked K V S W → Locked K V S W → Type 0) → Type 0
   CallsByGuest cache calls =
-      (seat : ℕ) × (moments : List ℕ) × (new : Locked K V S W) × calls (resting_at cache (newcomer cache.settings (guest seat)) moments) new
+      (seat : ℕ) × (moments : List ℕ) × (new : Locked K V S W) × calls (resting_at cache (newcomer (plan_of cache) (guest seat)) moments) new
 
   -- it has left this
   abbrev pub leaving : Option Operation → Locked K V S W → Locked K V S W

@@ -12,11 +12,12 @@ use Rattle.moka_row.specs.Visits.{at, guest, newcomer}
 use Rattle.moka_history.specs.Steps as act
 use Rattle.moka_history.specs.LastWrite.{IsCurrent, last_write_of}
 use Rattle.moka_history.specs.Laws.{Lacks}
+use Rattle.moka_locks.specs.Cache.{Plan}
 use Rattle.moka_locks.specs.History.{AnyWeight, Knows, Makes, Puts, place_of, rest, steps}
 
 -- a call of the cache itself is one of a guest that has made no other
-abbrev pub ByGuest : {K V S : Type 0} → Settings S → (Knows K V S → Knows K V S → Type 0) → Type 0
-ByGuest {K = K} {V = V} {S = S} settings Tells = (seat : ℕ) × (new : Knows K V S) × Tells (newcomer settings (guest seat)) new
+abbrev pub ByGuest : {K V S : Type 0} → Plan S → (Knows K V S → Knows K V S → Type 0) → Type 0
+ByGuest {K = K} {V = V} {S = S} plan Tells = (seat : ℕ) × (new : Knows K V S) × Tells (newcomer plan (guest seat)) new
 
 -- a clone of what was found, or memory is refused for it
 abbrev pub TellsClone : {V E : Type 0} → (V → V → Type 0) → Option V → Result (Option V) E → Type 0

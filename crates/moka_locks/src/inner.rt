@@ -2,7 +2,7 @@
 ghost use Rattle.std.specs.Prelude.{◌≡◌, ◌<◌, ◌+◌, ◌++◌, [], ◌∷◌, ℕ, List, Some, map, IfOk, IfSome, OnOk};
 ghost use Rattle.moka_sync_model.specs.declared.constants.TheConstants.{SHARDS};
 ghost use Rattle.moka_common.specs.Keys.{keys_by};
-ghost use Rattle.moka_locks.specs.Cache.{CacheId, new_cache};
+ghost use Rattle.moka_locks.specs.Cache.{CacheId, new_cache, plan_of};
 ghost use Rattle.moka_locks.specs.Charged.{counts_of};
 ghost use Rattle.moka_guards.specs.Log.{IsChain, IsSuffix};
 ghost use Rattle.moka_sync_model.specs.Published.{opening};
@@ -145,7 +145,7 @@ impl<
     /// Returns the seats of a new guest, who has made no visit.
     pub fn come(&self) -> Caller<K, V, S, P, A>
         ensures table { result.shards.table_id ≡ self.now.id.shards }
-        ensures new { (seat : ℕ) × (result.shards.me ≡ (newcomer self.now.settings (guest seat), [])) }
+        ensures new { (seat : ℕ) × (result.shards.me ≡ (newcomer (plan_of self.now) (guest seat), [])) }
         ensures moments { (result.moments.table_id ≡ self.now.id.moments) × (result.moments.me.1 ≡ []) }
     {
         self.shards.come()
@@ -199,7 +199,7 @@ impl<
         ensures once { IfOk result (λ pairs. IsDistinct K.eq (map (λ p. p.0) pairs.items)) }
         ensures own { IfOk result (λ pairs.
             All (λ p. place_of (keys_by K.Hash S.BuildHasher S.Hasher.Hasher) self.now.settings p.0 ≡ number) pairs.items) }
-        ensures copies { IfOk result (λ pairs. CopiesShard (keys_by K.Hash S.BuildHasher S.Hasher.Hasher) self.now.settings now number pairs.items) }
+        ensures copies { IfOk result (λ pairs. CopiesShard (keys_by K.Hash S.BuildHasher S.Hasher.Hasher) (plan_of self.now) now number pairs.items) }
     {
         let mut guest = self.shards.new_seat();
         let pairs = self.shards.pairs(rt, &mut guest, number, alloc, now);
@@ -216,8 +216,8 @@ impl<
         pairs: &mut Vec<(Shared<K, A>, Shared<V, A>), A>,
     ) -> Result<(), OutOfMemory>
         requires below { number < SHARDS }
-        requires snapshot { IsSnapshot (keys_by K.Hash S.BuildHasher S.Hasher.Hasher) self.now.settings now P.holds number pairs.old.items }
-        ensures snapshot { OnOk result (IsSnapshot (keys_by K.Hash S.BuildHasher S.Hasher.Hasher) self.now.settings now P.holds (number + 1)
+        requires snapshot { IsSnapshot (keys_by K.Hash S.BuildHasher S.Hasher.Hasher) (plan_of self.now) now P.holds number pairs.old.items }
+        ensures snapshot { OnOk result (IsSnapshot (keys_by K.Hash S.BuildHasher S.Hasher.Hasher) (plan_of self.now) now P.holds (number + 1)
             pairs.new.items) }
     {
         let alloc = self.alloc.clone()?;

@@ -2,6 +2,7 @@
 ghost use Rattle.std.specs.Prelude.{◌≡◌, [], ℕ, List, None, IfSome};
 ghost use Rattle.moka_common.specs.Settings.{keeps_writes};
 ghost use Rattle.moka_sync_model.specs.Phase.{Idle};
+ghost use Rattle.moka_locks.specs.Cache.{plan_of};
 ghost use Rattle.moka_locks.specs.Locked.{resting_at, running};
 ghost use Rattle.moka_row.specs.Visits.{IsIdle, guest, newcomer};
 ghost use Rattle.moka_locks.specs.SameTickets.{HasBothOrders};
@@ -83,6 +84,7 @@ impl<
 > Model for Locked<'a, K, V, S, P, W, A> {
     ghost use Rattle.std.specs.Prelude.{◌≡◌, [], IfSome, option_map};
     ghost use Rattle.moka_common.specs.Settings.{keeps_writes};
+    ghost use Rattle.moka_locks.specs.Cache.{plan_of};
     ghost use Rattle.moka_locks.specs.Locked.{Locked as LockedValue, operation_of};
     ghost use Rattle.moka_locks.specs.SameTickets.{IsOrdered};
     ghost use Rattle.moka_row.specs.Visits.{IsIdle};
@@ -98,7 +100,7 @@ impl<
     } };
 
     ghost invariant = { λ l. IfSome l.running (λ r. (r.keeps_writes ≡ keeps_writes l.inner.now.settings.policy) × IsOrdered r)
-        × (l.caller.shards.table_id ≡ l.inner.now.id.shards) × IsIdle l.inner.now.settings l.caller.shards.me
+        × (l.caller.shards.table_id ≡ l.inner.now.id.shards) × IsIdle (plan_of l.inner.now) l.caller.shards.me
         × (l.caller.moments.table_id ≡ l.inner.now.id.moments) × (l.caller.moments.me.1 ≡ []) };
 }
 
@@ -113,14 +115,14 @@ impl<
 > Locked<'a, K, V, S, P, W, A> {
     /// Begins a call by a new guest, with nothing under way.
     pub fn new(inner: &'a Inner<K, V, S, P, W, A>) -> Self
-        ensures { (seat : ℕ) × (moments : List ℕ) × (result ≡ resting_at inner.now (newcomer inner.now.settings (guest seat)) moments) }
+        ensures { (seat : ℕ) × (moments : List ℕ) × (result ≡ resting_at inner.now (newcomer (plan_of inner.now) (guest seat)) moments) }
     {
         Locked::by(inner, inner.shards.come())
     }
 
     /// Begins a call by a caller who has seats, with nothing under way.
     pub fn by(inner: &'a Inner<K, V, S, P, W, A>, caller: Caller<K, V, S, P, A>) -> Self
-        requires shards { (caller.shards.table_id ≡ inner.now.id.shards) × IsIdle inner.now.settings caller.shards.me }
+        requires shards { (caller.shards.table_id ≡ inner.now.id.shards) × IsIdle (plan_of inner.now) caller.shards.me }
         requires moments { (caller.moments.table_id ≡ inner.now.id.moments) × (caller.moments.me.1 ≡ []) }
         ensures { result ≡ resting_at inner.now caller.shards.me.0 caller.moments.me.0.seen }
     {
@@ -136,7 +138,7 @@ impl<
     /// Ends the call. Returns the caller's seats.
     pub fn into_caller(self) -> Caller<K, V, S, P, A>
         ensures table { result.shards.table_id ≡ self.entry.cache.id.shards }
-        ensures idle { IsIdle self.entry.cache.settings result.shards.me }
+        ensures idle { IsIdle (plan_of self.entry.cache) result.shards.me }
         ensures knows { result.shards.me.0 ≡ self.entry.knows }
         ensures seat { (result.moments.table_id ≡ self.entry.cache.id.moments) × (result.moments.me.1 ≡ []) }
         ensures moments { result.moments.me.0.seen ≡ self.entry.moments }

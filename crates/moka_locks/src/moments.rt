@@ -122,6 +122,7 @@ impl<A: Allocator + Drop> Moments<A> {
     }
 
     /// Returns a note of what the seat has seen.
+    #[inline]
     pub(crate) fn note(&self, me: &mut Witness) -> Witness
         requires table { me.old.table_id ≡ self.now.table.shared.table_id }
         ensures same { (me.new.table_id ≡ me.old.table_id) × (me.new.me ≡ me.old.me) }
@@ -131,15 +132,35 @@ impl<A: Allocator + Drop> Moments<A> {
         self.table.shared.split_seat::<Notes>(me)
     }
 
-    /// Tells a seat what a note says: the moments that it has seen go on from those too.
-    pub(crate) fn learn(&self, me: &mut Witness, note: Witness)
+    /// Tells a seat what a note says: the moments that it has seen go on from those too. Returns the latest moment, which the seat has then seen.
+    #[inline]
+    pub(crate) fn learn(&self, me: &mut Witness, note: Witness) -> Instant
         requires table { me.old.table_id ≡ self.now.table.shared.table_id }
         requires note { (note.table_id ≡ self.now.table.shared.table_id) × (note.me.1 ≡ []) }
         ensures same { (me.new.table_id ≡ me.old.table_id) × (me.new.me.1 ≡ me.old.me.1) }
         ensures goes_on { GoesOn me.old.me.0.seen me.new.me.0.seen }
         ensures learns { GoesOn note.me.0.seen me.new.me.0.seen }
+        ensures latest { result ≡ latest me.new.me.0.seen }
     {
         self.table.shared.join_seat::<Tells>(me, note);
-        let _ = self.table.shared.load::<Looks>(me, 0);
+        Instant::from_nanos(self.table.shared.load::<Looks>(me, 0))
+    }
+
+    /// Returns the latest moment, which both seats have then seen: a caller's, and that of the shard whose lock the caller has. It is four loads of the word.
+    #[inline]
+    pub(crate) fn load_both(&self, kept: &mut Witness, me: &mut Witness) -> Instant
+        requires table { me.old.table_id ≡ self.now.table.shared.table_id }
+        requires kept { (kept.old.table_id ≡ self.now.table.shared.table_id) × (kept.old.me.1 ≡ []) }
+        ensures same { (me.new.table_id ≡ me.old.table_id) × (me.new.me.1 ≡ me.old.me.1) }
+        ensures kept { (kept.new.table_id ≡ kept.old.table_id) × (kept.new.me.1 ≡ []) }
+        ensures latest { result ≡ latest me.new.me.0.seen }
+        ensures goes_on { GoesOn me.old.me.0.seen me.new.me.0.seen }
+        ensures learns { GoesOn kept.old.me.0.seen kept.new.me.0.seen }
+        ensures told { result ≡ latest kept.new.me.0.seen }
+    {
+        let note = self.note(kept);
+        let moment = self.learn(me, note);
+        *kept = self.note(me);
+        moment
     }
 }

@@ -1,6 +1,7 @@
 //! The shards of a cache, each behind a lock that keeps the history of what was done under it.
 ghost use Rattle.std.specs.Prelude.{◌≡◌, ◌≤◌, ℕ, [], IfOk, vec_len};
 ghost use Rattle.moka_common.specs.Keys.{keys_by};
+ghost use Rattle.moka_locks.specs.Cache.{plan_by};
 ghost use Rattle.moka_locks.specs.History.{AreShards, IsSized};
 ghost use Rattle.moka_row.specs.Visits.{IsPlace, guest, newcomer};
 ghost use Rattle.moka_sync_model.specs.declared.constants.TheConstants.{SHARDS};
@@ -9,7 +10,7 @@ ghost use Rattle.moka_sync_model.specs.Ticket.{shard_of};
 mod calls;
 mod turns;
 
-use crate::account::{Caller, ShardSeat, ShardTable};
+use crate::account::{Caller, Kept, Plan, ShardSeat, ShardTable};
 use crate::moments::Moments;
 use moka_common::error::OutOfMemory;
 use moka_common::time::Instant;
@@ -33,7 +34,7 @@ pub struct Shards<
     pub(crate) settings: Settings<S, A>,
     pub(crate) moments: Moments<A>,
     pub(crate) table: ShardTable<K, V, S, P, A>,
-    pub ghost planned: { table.shared.key ≡ settings },
+    pub ghost planned: { table.shared.key ≡ plan_by settings moments.table.shared.table_id },
     pub ghost sized: { IsSized table.shared.table_id },
 }
 
@@ -53,23 +54,24 @@ impl<
         ensures { IfOk result (λ shards. shards.settings ≡ settings) }
     {
         let again = alloc.clone()?;
-        let shards = empty_shards(alloc, &settings, capacity)?;
-        Shards::open(again, settings, shards)
+        let moments = Moments::new(alloc.clone()?)?;
+        let shards = empty_shards(alloc, &settings, &moments, capacity)?;
+        Shards::open(again, Plan { settings, moments }, shards)
     }
 
     /// Puts new shards behind locks.
     fn open(
         alloc: A,
-        settings: Settings<S, A>,
-        shards: Vec<Shard<K, V, S, P, A>, A>,
+        plan: Plan<S, A>,
+        shards: Vec<Kept<Shard<K, V, S, P, A>>, A>,
     ) -> Result<Self, OutOfMemory>
-        requires shards { AreShards (keys_by K.Hash S.BuildHasher S.Hasher.Hasher) settings shards.items }
+        requires shards { AreShards (keys_by K.Hash S.BuildHasher S.Hasher.Hasher) plan shards.items }
         requires count { vec_len shards ≡ SHARDS }
-        ensures { IfOk result (λ shards. shards.settings ≡ settings) }
+        ensures { IfOk result (λ shards. shards.settings ≡ plan.settings) }
     {
-        let moments = Moments::new(alloc.clone()?)?;
-        let (table, dealer) = open(alloc, shards, &settings)?;
+        let (table, dealer) = open(alloc, shards, &plan)?;
         drop(dealer);
+        let Plan { settings, moments } = plan;
         Ok(Shards {
             settings,
             moments,
@@ -131,7 +133,7 @@ impl<
     }
 }
 
-/// Makes the shards of a new cache, with capacity for `capacity` entries in each.
+/// Makes the shards of a new cache, with capacity for `capacity` entries in each, and a seat at the moments for each.
 fn empty_shards<
     K: Eq + Hash + Drop,
     V: Drop,
@@ -141,16 +143,19 @@ fn empty_shards<
 >(
     alloc: &A,
     settings: &Settings<S, A>,
+    moments: &Moments<A>,
     capacity: usize,
-) -> Result<Vec<Shard<K, V, S, P, A>, A>, OutOfMemory>
-    ensures shards { IfOk result (λ shards. AreShards (keys_by K.Hash S.BuildHasher S.Hasher.Hasher) settings.now shards.items) }
+) -> Result<Vec<Kept<Shard<K, V, S, P, A>>, A>, OutOfMemory>
+    ensures shards { IfOk result (λ shards. AreShards (keys_by K.Hash S.BuildHasher S.Hasher.Hasher)
+        (plan_by settings.now moments.now.table.shared.table_id) shards.items) }
     ensures count { IfOk result (λ shards. vec_len shards ≡ SHARDS) }
 {
     let mut shards = Vec::with_capacity(alloc.clone()?, SHARDS)?;
     for number in 0..SHARDS {
         let hash_state = settings.hash_state().try_clone()?;
         let shard = Shard::new(alloc.clone()?, number, 0, capacity, hash_state)?;
-        shards.push(shard)?;
+        let (_latest, witness) = moments.come();
+        shards.push(Kept { shard, witness })?;
     }
     Ok(shards)
 }

@@ -1,5 +1,6 @@
 -- A step that spares a key leaves the value that was last written there, so one's own write is found behind such steps. What is hidden is not found.
-use Rattle.std.proofs.Common.{◌≡◌, ◌≤◌, ℕ, ◌∙◌, ◌||◌, Bool, true, false, List, [], ◌∷◌, ◌++◌, Option, Some, None, Result, Ok, append_assoc, ap, refl, subst}
+use Rattle.std.proofs.Common.{◌≡◌, ◌≤◌, ℕ, ◌∙◌, ◌||◌, Bool, true, false, List, [], ◌∷◌, ◌++◌, Option, Some, None, IfSome, Result, Ok, append_assoc, ap, refl}
+use Rattle.std.proofs.Common.{subst}
 use Rattle.std.proofs.Common.{sym}
 use Rattle.std.proofs.Common.{arith, if◌then◌else◌, max, nat_lt, ltb-false}
 use Rattle.std.specs.Cmp.{IsEquivalence}
@@ -17,13 +18,15 @@ use Rattle.moka_common.specs.Moment.{idle_expired, live_expired}
 use Rattle.moka_common.specs.Policy.{Policy}
 use Rattle.moka_common.specs.Settings.{idle_nanos, live_nanos}
 use Rattle.moka_history.specs.LastWrite.{IsCurrent, LastWrite, is_over, is_removed, is_written, known_after, known_at, last_write, used_if}
+use Rattle.moka_history.specs.Steps as act
 use Rattle.moka_history.specs.Steps.{Act, Inserts, Invalidates, Step, Takes, Touches, Turns, acts}
-use Rattle.moka_locks.specs.History.{Every, Knows, Log, place_of, rest, steps}
+use Rattle.moka_locks.specs.History.{Every, HidesMore, HidesUpTo, Knows, Log, MakesIn, moment_of, place_of, rest, steps}
 use Rattle.moka_locks.specs.Moments as moments
 use Rattle.moka_locks.specs.Moments.{Appends, latest}
+use Rattle.moka_locks.proofs.HidingLemmas.{every_visit, latest_since}
 use Rattle.moka_locks.specs.Tells as tells
 use Rattle.moka_locks.specs.Tells.{TellsClone}
-use Rattle.moka_sync.specs.Own.{FindsFromNote, FindsOwn, FindsSince, Spares}
+use Rattle.moka_sync.specs.Own.{FindsFromNote, FindsOwn, FindsSince, Spares, StaysHidden}
 
 -- an answer that memory was not refused for
 abbrev answered : {V : Type 0} → Option V → Result (Option V) MemoryError
@@ -44,14 +47,6 @@ module _ {V : Type 0} where
   value_at : (p : Phase) (known : Option (LastWrite V)) → value_of (known_at p known) ≡ value_of known
   value_at (ReadApply work (Hit t moment)) known = value_used t moment known
   value_at p known = refl
-
--- a longer list of moments has no earlier latest one
-latest_grows : (since seen : List ℕ) → latest seen ≤ latest (since ++ seen)
-latest_grows [] seen = omega arith
-latest_grows (moment ∷ since) seen = omega (arith, latest_grows since seen)
-
-pub latest_since : {mid after : List ℕ} → moments.GoesOn mid after → latest mid ≤ latest after
-latest_since {mid = mid} goes_on = subst (λ l. latest mid ≤ latest l) (sym goes_on.1) (latest_grows goes_on.0 mid)
 
 -- the latest moment that was seen since an invalidation is no earlier than its
 pub since_own : {before : List ℕ} {moment : ℕ} {mid after : List ℕ} → Appends before moment mid → moments.GoesOn mid after → moment ≤ latest after
@@ -173,3 +168,51 @@ module _ {K V S : Type 0} (keys : Keys K S) where
               omega (arith, after, late.0),
               omega (arith, after, late.1),
             )
+
+  module _ (settings : Settings S) where
+    -- what holds of each moment by which a get's visit hides holds of that of a call behind it
+    later : {v w old new : Knows K V S} {i moment : ℕ} {did act : Act K V} → MakesIn keys settings v i did w
+        → ((m : ℕ) → IfSome (moment_of did) (λ n. n ≤ m) → moment ≤ m) → MakesIn keys settings old i act new → GoesOn (at w.seen i) (rest (at new.seen i))
+        → IfSome (moment_of act) (λ m. moment ≤ m)
+    later {v = v} {w = w} {old = old} {new = new} {i = i} {moment = moment} {did = did} {act = act} first bounds second on =
+        each (moment_of act) (subst (λ (a : Act K V). IfSome (moment_of a) Bounds) second.did whole.0)
+      where
+        Bounds : ℕ → Type 0
+        Bounds m = Every (HidesUpTo m) (steps (second.since ++ at old.seen i))
+
+        whole : HidesMore (second.step ∷ steps (second.since ++ at old.seen i))
+        whole = subst (λ (log : Log K V S). HidesMore (steps log)) second.seen second.history.hides
+
+        -- the history before the later call
+        past : second.since ++ at old.seen i ≡ on.0 ++ (v.by, first.step ∷ []) ∷ (first.since ++ at v.seen i)
+        past = sym (ap rest second.seen) ∙ (on.1 ∙ ap (λ log. on.0 ++ log) first.seen)
+
+        each : (o : Option ℕ) → IfSome o Bounds → IfSome o (λ m. moment ≤ m)
+        each None all = tt
+        each (Some m) all =
+            bounds m
+            (subst (λ (a : Act K V). IfSome (moment_of a) (λ n. n ≤ m)) first.did
+            (every_visit (HidesUpTo m) on.0 (first.since ++ at v.seen i) v.by first.step
+            (subst (λ (log : Log K V S). Every (HidesUpTo m) (steps log)) past all)))
+
+    -- what one's own invalidation of all hides, nobody finds behind one's own get
+    pub stays_hidden : {is_clone : V → V → Type 0} {moment : ℕ} {key : K} {now valid_after : ℕ} {result : Result (Option V) MemoryError} {v w : Knows K V S}
+        → moment ≤ valid_after → tells.Gets keys settings is_clone v key now valid_after result w
+        → StaysHidden keys settings is_clone moment (place_of keys settings key) (at w.seen (place_of keys settings key))
+    stays_hidden {is_clone = is_clone} {moment = moment} {key = key} {now = now} {valid_after = valid_after} {v = v} {w = w} after gets = record {
+      calls = calls;
+      gets = λ old new other when hidden found found_by same on.
+          finds_since settings
+          (calls old new (tells_act found_by) (subst (λ i. MakesIn keys settings old i (tells_act found_by) new) same found_by.made.made) on) found_by;
+    }
+      where
+        i : ℕ
+        i = place_of keys settings key
+
+        calls : (old new : Knows K V S) (act : Act K V) → MakesIn keys settings old i act new → GoesOn (at w.seen i) (rest (at new.seen i))
+            → IfSome (moment_of act) (λ m. moment ≤ m)
+        calls old new act second on = later gets.made.made (λ m is. omega (arith, after, is)) second on
+
+        tells_act : {old new : Knows K V S} {other : K} {when hidden : ℕ} {found : Option V}
+            → tells.Gets keys settings is_clone old other when hidden (Ok found) new → Act K V
+        tells_act {other = other} {when = when} {hidden = hidden} found_by = act.Gets other when hidden found_by.found

@@ -1,11 +1,12 @@
 -- What a session finds of what it has written and hidden, and of what it has learned.
-use Rattle.std.specs.Prelude.{◌≡◌, ◌≤◌, ℕ, false, ◌∷◌, ◌++◌, Option, Some}
+use Rattle.std.specs.Prelude.{◌≡◌, ◌≤◌, ℕ, false, ◌∷◌, ◌++◌, Option, Some, IfSome, Ok}
 use Rattle.moka_common.specs.Keys.{Keys}
 use Rattle.moka_common.specs.Settings.{Settings}
-use Rattle.moka_row.specs.Visits.{at}
+use Rattle.moka_row.specs.Visits.{GoesOn, at}
 use Rattle.moka_history.specs.LastWrite.{IsCurrent, LastWrite, is_removed, is_written, last_write}
-use Rattle.moka_history.specs.Steps.{Step, acts}
-use Rattle.moka_locks.specs.History.{Every, Knows, Log, Visit, place_of, rest, steps}
+use Rattle.moka_history.specs.Steps.{Act, Step, acts}
+use Rattle.moka_locks.specs.History.{Every, Knows, Log, MakesIn, Visit, moment_of, place_of, rest, steps}
+use Rattle.moka_locks.specs.Tells.{Gets}
 
 module _ {K V S : Type 0} (keys : Keys K S) where
   -- a step is no accepted insert at a key, and doesn't invalidate or remove it
@@ -29,6 +30,15 @@ module _ {K V S : Type 0} (keys : Keys K S) where
         (copy : V) → found ≡ Some copy
         → (write : LastWrite V) × (last_write keys.eq key (acts (steps (rest (at new.seen (place_of keys settings key))))) ≡ Some write)
         × is_clone write.value copy × (moment ≤ write.written) × (moment ≤ write.used)
+
+    -- What a moment hides, no call finds that comes later in the history of a shard than these visits, whoever makes it: each call there hides no less, so a
+    -- get finds what was written at the moment or later, and what was last used no earlier.
+    pub record StaysHidden (is_clone : V → V → Type 0) (moment i : ℕ) (log : Log K V S) : Type 0 where
+      pub calls : (old new : Knows K V S) (act : Act K V) → MakesIn keys settings old i act new → GoesOn log (rest (at new.seen i))
+          → IfSome (moment_of act) (λ later. moment ≤ later)
+      pub gets : (old new : Knows K V S) (key : K) (now valid_after : ℕ) (found : Option V)
+          → Gets keys settings is_clone old key now valid_after (Ok found) new → place_of keys settings key ≡ i
+          → GoesOn log (rest (at new.seen i)) → FindsSince is_clone moment key found new
 
     -- what is found after a note was learned: a clone of the value last written, and valid, in a history that goes on from the note
     pub record FindsFromNote (is_clone : V → V → Type 0) (noted : Log K V S) (key : K) (now valid_after : ℕ) (found : Option V) : Type 0 where

@@ -7,7 +7,7 @@ ghost use Rattle.moka_sync_model.specs.declared.constants.TheConstants.{CALLER, 
 ghost use Rattle.moka_sync_model.specs.WholeCall.{CallsContains, CallsInsert, CallsInvalidate, CallsInvalidateAll, CallsSync};
 ghost use Rattle.moka_sync_model.specs.declared.event.Reply.TheVariants as reply;
 ghost use Rattle.moka_sync.specs.Builder.{new_builder};
-ghost use Rattle.moka_locks.specs.Cache.{CacheId, new_cache};
+ghost use Rattle.moka_locks.specs.Cache.{CacheId, new_cache, plan_of};
 ghost use Rattle.moka_locks.specs.Charged.{counts_of};
 ghost use Rattle.moka_guards.specs.Log.{IsChain, IsSuffix};
 ghost use Rattle.moka_sync_model.specs.Published.{opening};
@@ -197,7 +197,7 @@ impl<
 
     /// Returns a new session, which has seen nothing and made no call. It takes no memory, and is refused only if there are too many clones to count.
     pub fn session(&self) -> Result<Session<K, V, S, P, W, A>, OutOfMemory>
-        ensures { IfOk result (λ session. (seat : ℕ) × (session.cache ≡ self.now) × (session.knows ≡ newcomer self.now.settings (guest seat))) }
+        ensures { IfOk result (λ session. (seat : ℕ) × (session.cache ≡ self.now) × (session.knows ≡ newcomer (plan_of self.now) (guest seat))) }
     {
         let inner = self.inner.try_clone()?;
         let caller = inner.get().come();
@@ -250,7 +250,7 @@ impl<
     pub fn iter<R: Wait>(&self, rt: &R, now: Instant) -> Result<Iter<K, V, A>, OutOfMemory>
         ensures ruled { IfOk result (λ pairs. PairsMeet P.holds pairs) }
         ensures once { IfOk result (λ pairs. IsDistinct K.eq (map (λ p. p.0) pairs)) }
-        ensures made { IfOk result (λ pairs. AreCopies (keys_by K.Hash S.BuildHasher S.Hasher.Hasher) self.now.settings now SHARDS pairs) }
+        ensures made { IfOk result (λ pairs. AreCopies (keys_by K.Hash S.BuildHasher S.Hasher.Hasher) (plan_of self.now) now SHARDS pairs) }
     {
         let inner = self.inner.get();
         let mut pairs = Vec::new(inner.alloc().clone()?);
@@ -273,7 +273,7 @@ impl<
     pub fn contains_key<R: Wait>(&self, rt: &R, key: &K, now: Instant) -> bool
         ensures call { CallsByGuest self.now (CallsContains (locked_allows (keys_by K.Hash S.BuildHasher S.Hasher.Hasher) P.holds W.weighs)
             locked_decides (pends_by locked_caller) CALLER key.now now (reply.Bool result)) }
-        ensures made { ByGuest {K = K} {V = V} {S = S} self.now.settings (λ old new. (valid_after : ℕ) × Looks (keys_by K.Hash S.BuildHasher S.Hasher.Hasher)
+        ensures made { ByGuest {K = K} {V = V} {S = S} (plan_of self.now) (λ old new. (valid_after : ℕ) × Looks (keys_by K.Hash S.BuildHasher S.Hasher.Hasher)
             self.now.settings old key.now now valid_after result new) }
     {
         steps::contains_key(rt, &mut Locked::new(self.inner.get()), key, now)
@@ -286,7 +286,7 @@ impl<
         requires ready { W.ready self.now.weigher }
         ensures call { CallsByGuest self.now (CallsInsert (locked_allows (keys_by K.Hash S.BuildHasher S.Hasher.Hasher) P.holds W.weighs)
             locked_decides (pends_by locked_caller) CALLER key value now (insert_reply result)) }
-        ensures made { ByGuest {K = K} {V = V} {S = S} self.now.settings (λ old new. Inserts (keys_by K.Hash S.BuildHasher S.Hasher.Hasher)
+        ensures made { ByGuest {K = K} {V = V} {S = S} (plan_of self.now) (λ old new. Inserts (keys_by K.Hash S.BuildHasher S.Hasher.Hasher)
             self.now.settings (W.weighs self.now.weigher) old key value now result new) }
     {
         let Some((key, value)) = stored(self.inner.get().alloc(), key, value) else {
@@ -299,7 +299,7 @@ impl<
     pub fn invalidate<R: Wait>(&self, rt: &R, key: &K, now: Instant)
         ensures call { CallsByGuest self.now (CallsInvalidate (locked_allows (keys_by K.Hash S.BuildHasher S.Hasher.Hasher) P.holds W.weighs)
             locked_decides (pends_by locked_caller) CALLER key.now now reply.Done) }
-        ensures made { ByGuest {K = K} {V = V} {S = S} self.now.settings (λ old new. (left : Option Ticket)
+        ensures made { ByGuest {K = K} {V = V} {S = S} (plan_of self.now) (λ old new. (left : Option Ticket)
             × Makes (keys_by K.Hash S.BuildHasher S.Hasher.Hasher) self.now.settings old
             (place_of (keys_by K.Hash S.BuildHasher S.Hasher.Hasher) self.now.settings key.now) (Invalidates key.now left) new) }
     {
@@ -327,7 +327,7 @@ impl<
     pub fn get<R: Wait>(&self, rt: &R, key: &K, now: Instant) -> Result<Option<V>, OutOfMemory>
         ensures call { CallsByGuest self.now (AnswersGet (locked_allows (keys_by K.Hash S.BuildHasher S.Hasher.Hasher) P.holds W.weighs)
             locked_decides locked_caller V.is_clone V.is_infallible key.now now result) }
-        ensures made { ByGuest {K = K} {V = V} {S = S} self.now.settings (λ old new. (valid_after : ℕ) × Gets (keys_by K.Hash S.BuildHasher S.Hasher.Hasher)
+        ensures made { ByGuest {K = K} {V = V} {S = S} (plan_of self.now) (λ old new. (valid_after : ℕ) × Gets (keys_by K.Hash S.BuildHasher S.Hasher.Hasher)
             self.now.settings V.is_clone old key.now now valid_after result new) }
 
         // It is a clone of a value that meets the rule with the key.
@@ -345,7 +345,7 @@ impl<
     ) -> Result<Option<V>, OutOfMemory>
         ensures call { CallsByGuest self.now (AnswersGet (locked_allows (keys_by K.Hash S.BuildHasher S.Hasher.Hasher) P.holds W.weighs)
             locked_decides locked_caller V.is_clone V.is_infallible key.now now result) }
-        ensures made { ByGuest {K = K} {V = V} {S = S} self.now.settings (λ old new. (valid_after : ℕ) × Gets (keys_by K.Hash S.BuildHasher S.Hasher.Hasher)
+        ensures made { ByGuest {K = K} {V = V} {S = S} (plan_of self.now) (λ old new. (valid_after : ℕ) × Gets (keys_by K.Hash S.BuildHasher S.Hasher.Hasher)
             self.now.settings V.is_clone old key.now now valid_after result new) }
         ensures ruled { IfOk result (λ found. IfSome found (λ copy. (value : V) × P.holds key.now value × V.is_clone value copy)) }
     {
@@ -357,7 +357,7 @@ impl<
     pub fn remove<R: Wait>(&self, rt: &R, key: &K, now: Instant) -> Result<Option<V>, OutOfMemory>
         ensures call { CallsByGuest self.now (AnswersRemove (locked_allows (keys_by K.Hash S.BuildHasher S.Hasher.Hasher) P.holds W.weighs)
             locked_decides locked_caller V.is_clone V.is_infallible key.now now result) }
-        ensures made { ByGuest {K = K} {V = V} {S = S} self.now.settings (λ old new. (valid_after : ℕ) × Removes (keys_by K.Hash S.BuildHasher S.Hasher.Hasher)
+        ensures made { ByGuest {K = K} {V = V} {S = S} (plan_of self.now) (λ old new. (valid_after : ℕ) × Removes (keys_by K.Hash S.BuildHasher S.Hasher.Hasher)
             self.now.settings V.is_clone old key.now now valid_after result new) }
 
         // It is a clone of a value that meets the rule with the key.

@@ -3,7 +3,7 @@ ghost use Rattle.std.specs.Prelude.{◌≡◌, ◌≤◌, IfSome};
 ghost use Rattle.moka_common.specs.Keys.{keys_by};
 ghost use Rattle.moka_locks.specs.History.{place_of};
 ghost use Rattle.moka_locks.specs.Moments.{latest};
-ghost use Rattle.moka_sync.specs.Own.{FindsFromNote, FindsOwn, FindsSince};
+ghost use Rattle.moka_sync.specs.Own.{FindsFromNote, FindsOwn, FindsSince, StaysHidden};
 ghost use Rattle.moka_row.specs.Visits.{at};
 
 use crate::note::Note;
@@ -72,8 +72,8 @@ pub fn learn_and_read<
     Some(found)
 }
 
-/// Hides all from before a moment, and reads a key. If a value is found, it was last written at this moment or later, and not used last before it. It returns
-/// `None` if memory was refused.
+/// Hides all from before a moment, and reads a key. If a value is found, it was last written at this moment or later, and not used last before it. Nor does
+/// anybody find an older one whose call comes later at the key's shard. It returns `None` if memory was refused.
 pub fn invalidate_and_read<
     K: Eq + Hash + Drop,
     V: Clone,
@@ -92,6 +92,9 @@ pub fn invalidate_and_read<
     ensures same { me.new.cache ≡ me.old.cache }
     ensures found { IfSome result (λ found. FindsSince (keys_by K.Hash S.BuildHasher S.Hasher.Hasher) me.old.cache.settings V.is_clone moment key.now
         found me.new.knows) }
+    ensures stays { StaysHidden (keys_by K.Hash S.BuildHasher S.Hasher.Hasher) me.old.cache.settings V.is_clone moment
+        (place_of (keys_by K.Hash S.BuildHasher S.Hasher.Hasher) me.old.cache.settings key.now)
+        (at me.new.knows.seen (place_of (keys_by K.Hash S.BuildHasher S.Hasher.Hasher) me.old.cache.settings key.now)) }
 {
     me.invalidate_all(moment);
     let Ok(found) = me.get(rt, key, now) else {

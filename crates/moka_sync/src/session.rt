@@ -76,6 +76,7 @@ impl<
     A: Allocator + Clone + Drop,
 > Model for Session<K, V, S, P, W, A> {
     ghost use Rattle.std.specs.Prelude.{◌≡◌, []};
+    ghost use Rattle.moka_locks.specs.Cache.{plan_of};
     ghost use Rattle.moka_row.specs.Visits.{IsIdle};
     ghost use Rattle.moka_sync.specs.Session.{Session as SessionValue};
 
@@ -83,7 +84,7 @@ impl<
 
     ghost view = { λ s. record { cache = s.inner; knows = s.caller.shards.me.0; moments = s.caller.moments.me.0.seen } };
 
-    ghost invariant = { λ s. (s.caller.shards.table_id ≡ s.inner.id.shards) × IsIdle s.inner.settings s.caller.shards.me
+    ghost invariant = { λ s. (s.caller.shards.table_id ≡ s.inner.id.shards) × IsIdle (plan_of s.inner) s.caller.shards.me
         × (s.caller.moments.table_id ≡ s.inner.id.moments) × (s.caller.moments.me.1 ≡ []) };
 }
 

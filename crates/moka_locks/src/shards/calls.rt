@@ -49,27 +49,28 @@ impl<
         requires table { me.old.table_id ≡ self.now.table.shared.table_id }
         requires moments { witness.old.table_id ≡ self.now.moments.table.shared.table_id }
         requires idle { IsIdle self.now.table.shared.key me.old.me }
-        requires hashed { hash ≡ (keys_by K.Hash S.BuildHasher S.Hasher.Hasher).hash_of self.now.table.shared.key.hash_state key.now }
+        requires hashed { hash ≡ (keys_by K.Hash S.BuildHasher S.Hasher.Hasher).hash_of self.now.table.shared.key.settings.hash_state key.now }
         ensures same { me.new.table_id ≡ me.old.table_id }
         ensures seat { (witness.new.table_id ≡ witness.old.table_id) × (witness.new.me.1 ≡ witness.old.me.1) }
         ensures moments { GoesOn witness.old.me.0.seen witness.new.me.0.seen }
         ensures idle { IsIdle self.now.table.shared.key me.new.me }
         ensures ruled { IfOk result (λ found. IfSome found.0 (λ f. P.holds key.now f.0)) }
-        ensures made { IfOk result (λ answer. Makes (keys_by K.Hash S.BuildHasher S.Hasher.Hasher) self.now.table.shared.key me.old.me.0
-            (place_of (keys_by K.Hash S.BuildHasher S.Hasher.Hasher) self.now.table.shared.key key.now)
+        ensures made { IfOk result (λ answer. Makes (keys_by K.Hash S.BuildHasher S.Hasher.Hasher) self.now.table.shared.key.settings me.old.me.0
+            (place_of (keys_by K.Hash S.BuildHasher S.Hasher.Hasher) self.now.table.shared.key.settings key.now)
             (Gets key.now now (latest witness.new.me.0.seen) answer.0) me.new.me.0) }
-        ensures refused { OnErr result ((found : V × Ticket) × Makes (keys_by K.Hash S.BuildHasher S.Hasher.Hasher) self.now.table.shared.key me.old.me.0
-            (place_of (keys_by K.Hash S.BuildHasher S.Hasher.Hasher) self.now.table.shared.key key.now)
+        ensures refused { OnErr result ((found : V × Ticket) × Makes (keys_by K.Hash S.BuildHasher S.Hasher.Hasher) self.now.table.shared.key.settings
+            me.old.me.0 (place_of (keys_by K.Hash S.BuildHasher S.Hasher.Hasher) self.now.table.shared.key.settings key.now)
             (Gets key.now now (latest witness.new.me.0.seen) (Some found)) me.new.me.0) }
     {
         let row = &self.table.shared;
-        let i = self.place(hash);
-        lock(rt, row, me, i);
-        let shard = me.slot_mut(row, i);
+        let place = self.place(hash);
+        lock(rt, row, me, place);
+        let kept = me.slot_mut(row, place);
+        let shard = &mut kept.shard;
         let before = Snapshot::of(&*shard);
-        let valid_after = self.moments.load(witness);
+        let valid_after = self.moments.load_both(&mut kept.witness, witness);
         let found = shard.get(key, hash, &self.settings, valid_after, now);
-        leave::<_, _, _, _, _, Brand>(row, me, i, (before, key, now, valid_after));
+        leave::<_, _, _, _, _, Brand>(row, me, place, (before, key, now, valid_after));
         found
     }
 
@@ -90,17 +91,18 @@ impl<
         ensures seat { (witness.new.table_id ≡ witness.old.table_id) × (witness.new.me.1 ≡ witness.old.me.1) }
         ensures moments { GoesOn witness.old.me.0.seen witness.new.me.0.seen }
         ensures idle { IsIdle self.now.table.shared.key me.new.me }
-        ensures made { Makes (keys_by K.Hash S.BuildHasher S.Hasher.Hasher) self.now.table.shared.key me.old.me.0
-            (place_of (keys_by K.Hash S.BuildHasher S.Hasher.Hasher) self.now.table.shared.key key.now)
+        ensures made { Makes (keys_by K.Hash S.BuildHasher S.Hasher.Hasher) self.now.table.shared.key.settings me.old.me.0
+            (place_of (keys_by K.Hash S.BuildHasher S.Hasher.Hasher) self.now.table.shared.key.settings key.now)
             (Looks key.now now (latest witness.new.me.0.seen) result) me.new.me.0 }
     {
         let row = &self.table.shared;
         let hash = self.hash_of(key);
         let i = self.place(hash);
         lock(rt, row, me, i);
-        let shard = me.slot_mut(row, i);
+        let kept = me.slot_mut(row, i);
+        let shard = &mut kept.shard;
         let before = Snapshot::of(&*shard);
-        let valid_after = self.moments.load(witness);
+        let valid_after = self.moments.load_both(&mut kept.witness, witness);
         let found = shard.contains_key(key, hash, &self.settings, valid_after, now);
         leave::<_, _, _, _, _, Brand>(row, me, i, (before, key, now, valid_after, found));
         found
@@ -123,14 +125,15 @@ impl<
         requires ready { W.ready weigher.now }
         ensures same { me.new.table_id ≡ me.old.table_id }
         ensures idle { IsIdle self.now.table.shared.key me.new.me }
-        ensures made { Puts (keys_by K.Hash S.BuildHasher S.Hasher.Hasher) self.now.table.shared.key (W.weighs weigher.now) me.old.me.0 key value now result
-            me.new.me.0 }
+        ensures made { Puts (keys_by K.Hash S.BuildHasher S.Hasher.Hasher) self.now.table.shared.key.settings (W.weighs weigher.now) me.old.me.0
+            key value now result me.new.me.0 }
     {
         let row = &self.table.shared;
         let hash = self.hash_of(key.get());
         let i = self.place(hash);
         lock(rt, row, me, i);
-        let shard = me.slot_mut(row, i);
+        let kept = me.slot_mut(row, i);
+        let shard = &mut kept.shard;
         let before = Snapshot::of(&*shard);
         let asked = Snapshot::of(&key);
         let given = Snapshot::of(&value);
@@ -153,14 +156,15 @@ impl<
         requires idle { IsIdle self.now.table.shared.key me.old.me }
         ensures same { me.new.table_id ≡ me.old.table_id }
         ensures idle { IsIdle self.now.table.shared.key me.new.me }
-        ensures made { Makes (keys_by K.Hash S.BuildHasher S.Hasher.Hasher) self.now.table.shared.key me.old.me.0
-            (place_of (keys_by K.Hash S.BuildHasher S.Hasher.Hasher) self.now.table.shared.key key.now) (Invalidates key.now result) me.new.me.0 }
+        ensures made { Makes (keys_by K.Hash S.BuildHasher S.Hasher.Hasher) self.now.table.shared.key.settings me.old.me.0
+            (place_of (keys_by K.Hash S.BuildHasher S.Hasher.Hasher) self.now.table.shared.key.settings key.now) (Invalidates key.now result) me.new.me.0 }
     {
         let row = &self.table.shared;
         let hash = self.hash_of(key);
         let i = self.place(hash);
         lock(rt, row, me, i);
-        let shard = me.slot_mut(row, i);
+        let kept = me.slot_mut(row, i);
+        let shard = &mut kept.shard;
         let before = Snapshot::of(&*shard);
         let left = shard.invalidate(key, hash);
         let after = Snapshot::of(&*shard);
@@ -185,16 +189,17 @@ impl<
         ensures ruled { IfOk result (λ pairs. PairsMeet P.holds pairs.items) }
         ensures once { IfOk result (λ pairs. IsDistinct K.eq (map (λ p. p.0) pairs.items)) }
         ensures own { IfOk result (λ pairs.
-            All (λ p. place_of (keys_by K.Hash S.BuildHasher S.Hasher.Hasher) self.now.table.shared.key p.0 ≡ i) pairs.items) }
+            All (λ p. place_of (keys_by K.Hash S.BuildHasher S.Hasher.Hasher) self.now.table.shared.key.settings p.0 ≡ i) pairs.items) }
         ensures made { IfOk result (λ pairs. (valid_after : ℕ)
-            × Makes (keys_by K.Hash S.BuildHasher S.Hasher.Hasher) self.now.table.shared.key me.old.me.0 i (Copies now valid_after pairs.items)
+            × Makes (keys_by K.Hash S.BuildHasher S.Hasher.Hasher) self.now.table.shared.key.settings me.old.me.0 i (Copies now valid_after pairs.items)
             me.new.me.0) }
     {
         let row = &self.table.shared;
         lock(rt, row, me, i);
-        let shard = me.slot_mut(row, i);
+        let kept = me.slot_mut(row, i);
+        let shard = &mut kept.shard;
         let before = Snapshot::of(&*shard);
-        let valid_after = self.valid_after();
+        let valid_after = self.moments.load(&mut kept.witness);
         match shard.pairs(alloc, &self.settings, valid_after, now) {
             Ok(pairs) => {
                 leave::<_, _, _, _, _, Brand>(row, me, i, (before, now, valid_after));
@@ -235,11 +240,11 @@ impl<
         ensures idle { IsIdle self.now.table.shared.key me.new.me }
         ensures made { IfOk result (λ taken. (found : Option V) × IsHanded V.is_clone found taken.0
             × IfSome found (λ value. P.holds key.now value)
-            × Makes (keys_by K.Hash S.BuildHasher S.Hasher.Hasher) self.now.table.shared.key me.old.me.0
-            (place_of (keys_by K.Hash S.BuildHasher S.Hasher.Hasher) self.now.table.shared.key key.now)
+            × Makes (keys_by K.Hash S.BuildHasher S.Hasher.Hasher) self.now.table.shared.key.settings me.old.me.0
+            (place_of (keys_by K.Hash S.BuildHasher S.Hasher.Hasher) self.now.table.shared.key.settings key.now)
             (Takes key.now now (latest witness.new.me.0.seen) found taken.1) me.new.me.0) }
-        ensures refused { OnErr result (((found : V × Ticket) × Makes (keys_by K.Hash S.BuildHasher S.Hasher.Hasher) self.now.table.shared.key me.old.me.0
-            (place_of (keys_by K.Hash S.BuildHasher S.Hasher.Hasher) self.now.table.shared.key key.now)
+        ensures refused { OnErr result (((found : V × Ticket) × Makes (keys_by K.Hash S.BuildHasher S.Hasher.Hasher) self.now.table.shared.key.settings
+            me.old.me.0 (place_of (keys_by K.Hash S.BuildHasher S.Hasher.Hasher) self.now.table.shared.key.settings key.now)
             (Gets key.now now (latest witness.new.me.0.seen) (Some found)) me.new.me.0)
             × ((value : V) × (¬ (V.is_infallible value)))) }
     {
@@ -247,9 +252,10 @@ impl<
         let hash = self.hash_of(key);
         let i = self.place(hash);
         lock(rt, row, me, i);
-        let shard = me.slot_mut(row, i);
+        let kept = me.slot_mut(row, i);
+        let shard = &mut kept.shard;
         let before = Snapshot::of(&*shard);
-        let valid_after = self.moments.load(witness);
+        let valid_after = self.moments.load_both(&mut kept.witness, witness);
         let taken = shard.take_clone(key, hash, &self.settings, valid_after, now);
         let told = Snapshot::of(&taken);
         let after = Snapshot::of(&*shard);

@@ -37,7 +37,8 @@ impl<
         let me = &mut self.new_seat();
         let i = self.place(ticket.hash);
         lock(rt, row, me, i);
-        let shard = me.slot_mut(row, i);
+        let kept = me.slot_mut(row, i);
+        let shard = &mut kept.shard;
         let before = Snapshot::of(&*shard);
         let hint = shard.touch(ticket, slot, moment);
         let after = Snapshot::of(&*shard);
@@ -60,7 +61,8 @@ impl<
         let me = &mut self.new_seat();
         let i = self.place(ticket.hash);
         lock(rt, row, me, i);
-        let shard = me.slot_mut(row, i);
+        let kept = me.slot_mut(row, i);
+        let shard = &mut kept.shard;
         let found = Snapshot::of(&*shard);
         let stood = Snapshot::of(&*maintenance);
         let valid_after = self.valid_after_since(before);
@@ -83,7 +85,8 @@ impl<
         let me = &mut self.new_seat();
         let i = self.place(ticket.hash);
         lock(rt, row, me, i);
-        let shard = me.slot_mut(row, i);
+        let kept = me.slot_mut(row, i);
+        let shard = &mut kept.shard;
         let found = Snapshot::of(&*shard);
         let stood = Snapshot::of(&*maintenance);
         shard.apply_upsert(maintenance, ticket, &self.settings);

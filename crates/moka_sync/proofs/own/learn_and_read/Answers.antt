@@ -3,7 +3,8 @@ use Rattle.moka_common.specs.Keys.{keys_by}
 use Rattle.moka_locks.specs.History.{place_of}
 use Rattle.moka_locks.specs.Moments.{latest}
 use Rattle.moka_locks.specs.Tells.{Gets}
-use Rattle.moka_sync.proofs.OwnLemmas.{finds_from_note, latest_since}
+use Rattle.moka_locks.proofs.HidingLemmas.{latest_since}
+use Rattle.moka_sync.proofs.OwnLemmas.{finds_from_note}
 use Rattle.moka_sync.proofs.own.learn_and_read.Given.{Over}
 use Rattle.moka_sync.proofs.own.learn_and_read.Goals.{After-get}
 use Rattle.moka_sync.proofs.own.learn_and_read.Goals as goal

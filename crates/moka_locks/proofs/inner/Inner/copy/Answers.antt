@@ -1,6 +1,7 @@
 use Rattle.std.proofs.Common.{◌+◌, subst, sym}
 use Rattle.moka_common.proofs.KeysLemmas.{keys_by-respects}
 use Rattle.moka_common.specs.Keys.{Keys, keys_by}
+use Rattle.moka_locks.specs.Cache.{plan_of}
 use Rattle.moka_locks.specs.Snapshot.{IsSnapshot}
 use Rattle.moka_locks.proofs.SnapshotLemmas.{on_ok, with_shard}
 use Rattle.moka_locks.proofs.inner.Inner.copy.Given.{Over}
@@ -19,7 +20,8 @@ returns g c =
     record {
       snapshot = on_ok c.append.result c.append.ensures
           (λ is.
-          subst (IsSnapshot (keys_of g) settings c.args.now g.P.PairRule.holds (c.args.number + 1)) (sym is)
-          (with_shard (keys_of g) settings c.args.now g.P.PairRule.holds respects c.args.number c.args.pairs.now.items c.in_ok-copied.copied.items
+          subst (IsSnapshot (keys_of g) (plan_of c.args.self.now) c.args.now g.P.PairRule.holds (c.args.number + 1)) (sym is)
+          (with_shard (keys_of g) (plan_of c.args.self.now) c.args.now g.P.PairRule.holds respects c.args.number c.args.pairs.now.items
+          c.in_ok-copied.copied.items
           c.requires.snapshot copied.ruled copied.once copied.own copied.copies));
     }

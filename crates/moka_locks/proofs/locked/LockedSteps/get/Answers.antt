@@ -4,7 +4,7 @@ use Rattle.moka_sync_model.specs.declared.operation.Operation.TheVariants.{Readi
 use Rattle.moka_sync_model.specs.declared.operation.Read.TheVariants.{Miss}
 use Rattle.moka_sync_model.specs.declared.ticket.Ticket.{Ticket}
 use Rattle.moka_history.specs.Steps.{Gets}
-use Rattle.moka_locks.specs.Cache.{Cache}
+use Rattle.moka_locks.specs.Cache.{Cache, Plan}
 use Rattle.moka_locks.specs.Locked.{Locked, having_seen, knowing, leaving}
 use Rattle.moka_locks.specs.Moments.{GoesOn, latest}
 use Rattle.moka_locks.proofs.StepLemmas.{does_here, get_none, get_refused}
@@ -17,7 +17,8 @@ keys_of g = keys_by (record { eq = g.K.PartialEq.eq; hash_input = g.K.Hash.hash_
 
 pub returns-in_err-found-clause-step : goal.returns-in_err-found-clause-step
 returns-in_err-found-clause-step g c =
-    let same = c.inner.inside.shards.planned ∙ (ap (λ (v : Cache g.row.S.Denot g.row.W.Denot). v.settings) c.inner.view_is
+    let same = ap (λ (p : Plan g.row.S.Denot). p.settings) c.inner.inside.shards.planned
+    ∙ (ap (λ (v : Cache g.row.S.Denot g.row.W.Denot). v.settings) c.inner.view_is
     ∙ ap (λ (l : Locked g.row.K.Denot g.row.V.Denot g.row.S.Denot g.row.W.Denot). l.cache.settings) c.self.view_is) in
     let known = ap (λ (l : Locked g.row.K.Denot g.row.V.Denot g.row.S.Denot g.row.W.Denot). l.knows) c.self.view_is in
     let seen = ap (λ (l : Locked g.row.K.Denot g.row.V.Denot g.row.S.Denot g.row.W.Denot). l.moments) c.self.view_is in
@@ -32,7 +33,8 @@ returns-in_err-found-clause-step g c =
 
 pub returns-in_default-clause-step : goal.returns-in_default-clause-step
 returns-in_default-clause-step g c =
-    let same = c.inner.inside.shards.planned ∙ (ap (λ (v : Cache g.row.S.Denot g.row.W.Denot). v.settings) c.inner.view_is
+    let same = ap (λ (p : Plan g.row.S.Denot). p.settings) c.inner.inside.shards.planned
+    ∙ (ap (λ (v : Cache g.row.S.Denot g.row.W.Denot). v.settings) c.inner.view_is
     ∙ ap (λ (l : Locked g.row.K.Denot g.row.V.Denot g.row.S.Denot g.row.W.Denot). l.cache.settings) c.self.view_is) in
     let known = ap (λ (l : Locked g.row.K.Denot g.row.V.Denot g.row.S.Denot g.row.W.Denot). l.knows) c.self.view_is in
     let seen = ap (λ (l : Locked g.row.K.Denot g.row.V.Denot g.row.S.Denot g.row.W.Denot). l.moments) c.self.view_is in

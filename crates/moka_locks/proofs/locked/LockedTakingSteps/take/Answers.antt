@@ -2,7 +2,7 @@ use Rattle.std.proofs.Common.{◌∙◌, Some, ap, subst}
 use Rattle.moka_common.specs.Keys.{Keys, keys_by}
 use Rattle.moka_sync_model.specs.declared.ticket.Ticket.{Ticket}
 use Rattle.moka_history.specs.Steps.{Gets}
-use Rattle.moka_locks.specs.Cache.{Cache}
+use Rattle.moka_locks.specs.Cache.{Cache, Plan}
 use Rattle.moka_locks.specs.Locked.{Locked, having_seen, knowing}
 use Rattle.moka_locks.specs.Moments.{GoesOn, latest}
 use Rattle.moka_locks.proofs.StepLemmas.{does_here, take_refused}
@@ -16,7 +16,8 @@ keys_of g = keys_by (record { eq = g.K.PartialEq.eq; hash_input = g.K.Hash.hash_
 pub returns-in_err-handed-clause-step : goal.returns-in_err-handed-clause-step
 returns-in_err-handed-clause-step g c =
     let refused = (c.in_err-handed.ensures {u = tt}).refused in
-    let same = c.inner.inside.shards.planned ∙ (ap (λ (v : Cache g.row.S.Denot g.row.W.Denot). v.settings) c.inner.view_is
+    let same = ap (λ (p : Plan g.row.S.Denot). p.settings) c.inner.inside.shards.planned
+    ∙ (ap (λ (v : Cache g.row.S.Denot g.row.W.Denot). v.settings) c.inner.view_is
     ∙ ap (λ (l : Locked g.row.K.Denot g.row.V.Denot g.row.S.Denot g.row.W.Denot). l.cache.settings) c.self.view_is) in
     let known = ap (λ (l : Locked g.row.K.Denot g.row.V.Denot g.row.S.Denot g.row.W.Denot). l.knows) c.self.view_is in
     let seen = ap (λ (l : Locked g.row.K.Denot g.row.V.Denot g.row.S.Denot g.row.W.Denot). l.moments) c.self.view_is in

@@ -8,7 +8,7 @@ abbrev pub ghosts-leave : goal.ghosts-leave
 ghosts-leave g a = record {
   entry = Some (record {
     before = state_of a._about.0.value;
-    act = Gets a._about.1.now a._about.2 a._about.3 (found_at g.K.PartialEq.eq a.row.now.key
+    act = Gets a._about.1.now a._about.2 a._about.3 (found_at g.K.PartialEq.eq a.row.now.key.settings
         (state_of a._about.0.value) a._about.1.now a._about.2 a._about.3);
     after = state_of a._about.0.value;
   } ∷ []);

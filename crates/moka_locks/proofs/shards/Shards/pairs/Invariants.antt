@@ -8,7 +8,7 @@ abbrev pub ghosts-leave : goal.ghosts-leave
 ghosts-leave g a = record {
   entry = Some (record {
     before = state_of a._about.0.value;
-    act = Copies a._about.1 a._about.2 (pairs_at a.row.now.key a._about.2 a._about.1
+    act = Copies a._about.1 a._about.2 (pairs_at a.row.now.key.settings a._about.2 a._about.1
         (state_of a._about.0.value));
     after = state_of a._about.0.value;
   } ∷ []);

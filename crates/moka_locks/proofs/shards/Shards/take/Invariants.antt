@@ -7,7 +7,7 @@ abbrev pub ghosts-leave : goal.ghosts-leave
 ghosts-leave g a = record {
   entry = Some (record {
     before = state_of a._about.0.value;
-    act = take_act a._about.2.now a._about.3 a._about.4 (found_at g.K.PartialEq.eq a.row.now.key
+    act = take_act a._about.2.now a._about.3 a._about.4 (found_at g.K.PartialEq.eq a.row.now.key.settings
         (state_of a._about.0.value) a._about.2.now a._about.3 a._about.4) a._about.5.value;
     after = state_of a._about.1.value;
   } ∷ []);

@@ -1,7 +1,7 @@
-use Rattle.std.proofs.Common.{◌∙◌, ◌∷◌, [], ap}
+use Rattle.std.proofs.Common.{◌∙◌, ◌∷◌, [], ap, refl}
 use Rattle.moka_common.specs.Keys.{Keys, keys_by}
 use Rattle.moka_history.specs.Steps.{Turns}
-use Rattle.moka_locks.proofs.VisitLemmas.{Did, Entered, enters, first_held, kept, step_of}
+use Rattle.moka_locks.proofs.VisitLemmas.{Did, Entered, enters, first_held, hides_none, kept, step_of}
 use Rattle.moka_locks.proofs.shards.Shards.turn.Given.{Over}
 use Rattle.moka_locks.proofs.shards.Shards.turn.Goals.{After-of-after}
 use Rattle.moka_locks.proofs.shards.Shards.turn.Goals as goal
@@ -9,27 +9,29 @@ use Rattle.moka_locks.proofs.shards.Shards.turn.Goals as goal
 abbrev keys_of : (g : Over) → Keys g.row.K.Denot g.row.S.Denot
 keys_of g = keys_by (record { eq = g.K.PartialEq.eq; hash_input = g.K.Hash.hash_input }) g.S.BuildHasher g.S.Hasher.Hasher
 
-pub slot_mut-shard-requires : goal.slot_mut-shard-requires
-slot_mut-shard-requires g c = (c.lock.ensures.same ∙ c.new_seat.ensures.table, first_held c.lock.ensures.got)
+pub slot_mut-kept-requires : goal.slot_mut-kept-requires
+slot_mut-kept-requires g c = (c.lock.ensures.same ∙ c.new_seat.ensures.table, first_held c.lock.ensures.got)
 
 -- the shard that was found
 its_shard : (g : Over) (c : After-of-after g) → Entered (keys_of g) c.args.self.now.table.shared.key c.place-i.result c.new_seat.result.me.0 c.lock.new.me.me
-    c.slot_mut-shard.result.now
+    c.slot_mut-kept.result.now
 its_shard g c =
-    enters (keys_of g) c.args.self.now.table.shared.key c.place-i.result c.new_seat.result.me c.lock.new.me.me c.slot_mut-shard.result.now c.lock.ensures.got
+    enters (keys_of g) c.args.self.now.table.shared.key c.place-i.result c.new_seat.result.me c.lock.new.me.me c.slot_mut-kept.result.now c.lock.ensures.got
     (ap
     (λ m. m.0.plan) c.new_seat.ensures.new.1)
-    c.slot_mut-shard.ensures.value
+    c.slot_mut-kept.ensures.value
 
 -- what the visit did, and how it is noted
 its_step : (g : Over) (c : After-of-after g) → Did (keys_of g) c.args.self.now.table.shared.key c.place-i.result c.new_seat.result.me.0 c.lock.new.me.me
-    c.slot_mut-shard.result.now
-    c.turn.new.self (Turns c.args.maintenance.now c.valid_after_since-valid_after.result c.args.ticket) (step_of c.of-found.result.value
+    c.slot_mut-kept.result.now
+    (record { shard = c.turn.new.self; witness = c.slot_mut-kept.result.now.witness })
+    (Turns c.args.maintenance.now c.valid_after_since-valid_after.result c.args.ticket) (step_of c.of-found.result.value
     (Turns c.of-stood.result.value c.valid_after_since-valid_after.result c.args.ticket) c.of-after.result.value ∷ [])
 its_step g c = record {
   entered = its_shard g c;
   is = (c.turn.ensures.shard.0, c.turn.new.maintenance, rw c.args.self.now.planned c.turn.ensures.shard.1);
   valid = c.turn.ensures.valid;
+  hides = hides_none _ c.turn.new.self (its_shard g c) refl;
   own = tt;
   noted = λ j. step_of (c.of-found.ensures j) (Turns (c.of-stood.ensures j) c.valid_after_since-valid_after.result c.args.ticket) (c.of-after.ensures j) ∷ [];
 }

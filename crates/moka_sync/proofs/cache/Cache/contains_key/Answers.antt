@@ -1,5 +1,6 @@
 use Rattle.std.proofs.Common.{◌∙◌, ap, subst}
 use Rattle.moka_common.specs.Keys.{Keys, keys_by}
+use Rattle.moka_locks.specs.Cache.{plan_of}
 use Rattle.moka_row.specs.Visits.{guest, newcomer}
 use Rattle.moka_sync_model.specs.declared.constants.TheConstants.{CALLER}
 use Rattle.moka_sync_model.specs.declared.event.Reply.TheVariants as reply
@@ -16,7 +17,7 @@ keys_of g = keys_by (record { eq = g.K.PartialEq.eq; hash_input = g.K.Hash.hash_
 
 pub returns-clause-call : goal.returns-clause-call
 returns-clause-call g c =
-    let is = c.new.ensures.2 ∙ ap (λ x. resting_at x (newcomer x.settings (guest c.new.ensures.0)) c.new.ensures.1) (c.get.ensures ∙ c.self.view_is) in (
+    let is = c.new.ensures.2 ∙ ap (λ x. resting_at x (newcomer (plan_of x) (guest c.new.ensures.0)) c.new.ensures.1) (c.get.ensures ∙ c.self.view_is) in (
       c.new.ensures.0,
       c.new.ensures.1,
       c.contains_key.new.steps,
@@ -26,13 +27,13 @@ returns-clause-call g c =
 
 pub returns-clause-made : goal.returns-clause-made
 returns-clause-made g c =
-    let is = c.new.ensures.2 ∙ ap (λ x. resting_at x (newcomer x.settings (guest c.new.ensures.0)) c.new.ensures.1) (c.get.ensures ∙ c.self.view_is) in (
+    let is = c.new.ensures.2 ∙ ap (λ x. resting_at x (newcomer (plan_of x) (guest c.new.ensures.0)) c.new.ensures.1) (c.get.ensures ∙ c.self.view_is) in (
       c.new.ensures.0,
       c.contains_key.new.steps.knows,
       (
         latest c.contains_key.new.steps.moments,
         (look_tells (keys_of g) g.P.PairRule.holds g.W.WeighShared.weighs g.met.K.Eq.laws c.args.self.now
-            (newcomer c.args.self.now.settings (guest c.new.ensures.0)) c.new.ensures.1 _ c.contains_key.new.steps is c.args.key.now c.args.now
+            (newcomer (plan_of c.args.self.now) (guest c.new.ensures.0)) c.new.ensures.1 _ c.contains_key.new.steps is c.args.key.now c.args.now
             c.contains_key.result
             c.contains_key.ensures.call).1.0,
       ),

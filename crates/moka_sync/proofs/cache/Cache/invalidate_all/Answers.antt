@@ -1,5 +1,6 @@
 use Rattle.std.proofs.Common.{◌∙◌, ap, subst}
 use Rattle.moka_common.specs.Keys.{Keys, keys_by}
+use Rattle.moka_locks.specs.Cache.{plan_of}
 use Rattle.moka_row.specs.Visits.{guest, newcomer}
 use Rattle.moka_sync_model.specs.declared.constants.TheConstants.{CALLER}
 use Rattle.moka_sync_model.specs.declared.event.Reply.TheVariants as reply
@@ -14,7 +15,7 @@ keys_of g = keys_by (record { eq = g.K.PartialEq.eq; hash_input = g.K.Hash.hash_
 
 pub returns : goal.returns
 returns g c =
-    let is = c.new.ensures.2 ∙ ap (λ x. resting_at x (newcomer x.settings (guest c.new.ensures.0)) c.new.ensures.1) (c.get.ensures ∙ c.self.view_is) in
+    let is = c.new.ensures.2 ∙ ap (λ x. resting_at x (newcomer (plan_of x) (guest c.new.ensures.0)) c.new.ensures.1) (c.get.ensures ∙ c.self.view_is) in
     record {
       call = (
         c.new.ensures.0,

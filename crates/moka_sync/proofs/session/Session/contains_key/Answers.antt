@@ -1,7 +1,7 @@
 use Rattle.std.proofs.Common.{◌≡◌, ◌∙◌, ℕ, List, ap, subst, sym}
 use Rattle.moka_common.specs.Keys.{Keys, keys_by}
 use Rattle.moka_row.specs.Visits.{IsIdle}
-use Rattle.moka_locks.specs.Cache.{Cache}
+use Rattle.moka_locks.specs.Cache.{Cache, plan_of}
 use Rattle.moka_locks.specs.History.{Knows}
 use Rattle.moka_locks.specs.Locked.{resting_at}
 use Rattle.moka_locks.specs.Moments.{GoesOn, latest}
@@ -31,7 +31,7 @@ pub invariant_of-self : goal.invariant_of-self
 invariant_of-self g c =
     let same = (told g (goal.at.invariant_of-self g c).After-into_caller).0 ∙ sym (ap (λ s. s.cache) c.self.view_is) in (
       c.into_caller.ensures.table ∙ ap (λ (x : Cache g.row.S.Denot g.row.W.Denot). x.id.shards) same,
-      subst (λ (x : Cache g.row.S.Denot g.row.W.Denot). IsIdle x.settings c.into_caller.result.shards.me) same c.into_caller.ensures.idle,
+      subst (λ (x : Cache g.row.S.Denot g.row.W.Denot). IsIdle (plan_of x) c.into_caller.result.shards.me) same c.into_caller.ensures.idle,
       c.into_caller.ensures.seat.0 ∙ ap (λ (x : Cache g.row.S.Denot g.row.W.Denot). x.id.moments) same,
       c.into_caller.ensures.seat.1,
     )
