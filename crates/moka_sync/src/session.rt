@@ -181,7 +181,8 @@ impl<
     }
 
     /// Hides each entry whose last write or last read was before this moment; one of the two is enough. Those of the moment itself stay. It takes no lock.
-    /// The session's next calls find none of the hidden ones, and neither do those of a session that learns a note of it.
+    /// The session's next calls find none of the hidden ones, and neither do those of a session that learns a note of it. Once the session has read a shard,
+    /// no later call finds them there, whoever makes it.
     pub fn invalidate_all(&mut self, now: Instant)
         ensures same { (self.new.cache ≡ self.old.cache) × (self.new.knows ≡ self.old.knows) }
         ensures moments { Appends self.old.moments now self.new.moments }
