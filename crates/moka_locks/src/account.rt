@@ -8,7 +8,7 @@ use std::alloc::Allocator;
 use std::hash::{BuildHasher, Hash};
 use std::marker::{Model, PhantomData};
 
-/// A shard in its slot, with a seat of its own at the moments of the invalidations of all: whoever has the lock hides no less than those before.
+/// A shard in its slot, with a seat of its own at the moments of the invalidations of all. Whoever has the lock hides no less than those before.
 #[derive(Drop)]
 pub struct Kept<T: Drop> {
     pub(crate) shard: T,
