@@ -9,4 +9,6 @@ returns-clause-kept g c =
     let some : 0 < it.smaller.ids - it.next = rw (← c.self.view_is) at c.requires.left in
     let left : it.next < it.smaller.ids = omega (arith, some) in
     rw (← c.self.view_is)
-    ((passed_next c.self.invariant left (λ hash. subst (λ v. is_candidate v hash v.next ≡ false) (sym c.self.view_is) (c.requires.absent hash)) c.pass-self-inside.result c.pass-self-inside.new.smaller c.pass-self-inside.ensures).1)
+    ((passed_next c.self.invariant left
+    (λ hash. subst (λ v. is_candidate v hash v.next ≡ false) (sym c.self.view_is) (c.requires.absent hash)) c.pass-self-inside.result
+    c.pass-self-inside.new.smaller c.pass-self-inside.ensures).1)
