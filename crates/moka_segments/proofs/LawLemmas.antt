@@ -3,6 +3,7 @@ use Rattle.std.proofs.Common.{◌≡◌, ◌⊎◌, ◌↔◌, ℕ, ◌==◌, �
 use Rattle.std.proofs.Common.{inr, eq-eqb, true≢false}
 use Rattle.std.specs.Prelude.{option_map, is_some}
 use Rattle.moka_common.specs.Keys.{Keys}
+use Rattle.moka_common.specs.Policy.{Policy}
 use Rattle.moka_unsync_model.specs.CacheState.{CacheState, new_cache}
 use Rattle.moka_unsync_model.specs.Lookup.{after_get, found_by_get}
 use Rattle.moka_unsync_model.specs.Step.{Answer, IsStep, Request, ContainsKey, Get, Insert, Invalidate, InvalidateAll, InvalidateEntriesIf, Peek, Remove}
@@ -105,6 +106,31 @@ module _ {K V S : Type 0} (keys : Keys K S) (rules : Rules K V) (agree : Agree k
       of_one [] apart a = tt
       of_one (call ∷ more) apart a = (spares by visit.0 key call owner apart a.0, of_one more apart a.1)
 
+module _ {K V S W : Type 0} (keys : Keys K S) (rules : Rules K V) where
+  -- a value that is current in the history of a segment meets the rule of pairs
+  pub met_in : (policy : Policy) → Agree keys.eq rules → LastWritesAreInserts keys V → (log : Log K V S W)
+      → Every (λ visit. Every (λ call. IsPermitted rules visit.0 call.request) visit.1) log → (key : K) (now : ℕ) (value : V)
+      → IsCurrent keys policy now (exchanges (calls log)) key value → rules.holds key value
+  met_in policy agree writes log ruled key now value is =
+      let last = writes (exchanges (calls log)) key is.0 is.1 in
+      let before : Every (λ call. Put rules call.request) (calls log) =
+      every_call (λ call. Put rules call.request) log
+      (every_weaker (λ by call. IsPermitted rules by call.request) (λ call. Put rules call.request) log
+      (λ by call may. put_of rules by call.request may) ruled) in
+      let insert : Put rules last.insert.request = ruled_at last.since last.insert last.earlier (calls log) last.parts before in
+      let put : rules.holds last.other is.0.value = subst (Put rules) last.asked insert in
+      subst (λ x. rules.holds key x) is.2 (agree.holds last.other key is.0.value last.equal put)
+    where
+      ruled_at : (since : List (Exchange K V)) (insert : Exchange K V) (earlier : List (Exchange K V)) (past : List (Transition K V S W))
+          → exchanges past ≡ since ++ insert ∷ earlier
+          → Every (λ call. Put rules call.request) past → Put rules insert.request
+      ruled_at [] insert earlier [] parts all = absurd (cc)
+      ruled_at [] insert earlier (call ∷ past) parts all = subst (λ (e : Exchange K V). Put rules e.request)
+          (head_is (exchange_of call) insert (exchanges past) earlier parts) all.0
+      ruled_at (e ∷ since) insert earlier [] parts all = absurd (cc)
+      ruled_at (e ∷ since) insert earlier (call ∷ past) parts all = ruled_at since insert earlier past
+          (tail_is (exchange_of call) e (exchanges past) (since ++ insert ∷ earlier) parts) all.1
+
 module _ {K V S W : Type 0} (keys : Keys K S) (weighs : W → K → V → ℕ → W → Type 0) (rules : Rules K V) (plan : Plan S) where
   module _ (v w : Knows K V S W) (i : ℕ) (request : Request K V) (answer : Answer K V) (m : MakesIn keys weighs rules plan v i request answer w) where
     -- the calls before the last one, and the last one
@@ -127,7 +153,7 @@ module _ {K V S W : Type 0} (keys : Keys K S) (weighs : W → K → V → ℕ �
         subst (λ (log : Log K V S W). Every (λ visit. Every (λ call. IsPermitted rules visit.0 call.request) visit.1) log) (sym rest_is) all.1
 
     -- a value that a get in the call's place finds is current
-    current : HitsAreCurrent keys weighs → (key : K) (now : ℕ) (value : V) (got : CacheState K V S W)
+    pub current : HitsAreCurrent keys weighs → (key : K) (now : ℕ) (value : V) (got : CacheState K V S W)
         → IsStep keys weighs m.call.before (Get key now) (Found (Some value)) got
         → IsCurrent keys plan.policy now (exchanges (calls (rest (at w.seen i)))) key value
     current law key now value got step =
@@ -143,32 +169,14 @@ module _ {K V S W : Type 0} (keys : Keys K S) (weighs : W → K → V → ℕ �
         ∙ (ap (λ (log : Log K V S W). value_written keys key (exchanges (joined (visits_by v.by log)))) (sym rest_is)
         ∙ sym (own_calls keys v.by key (rest (at w.seen i)) only))
 
-    owned : (key : K) (now : ℕ) (value : V) → IsCurrent keys plan.policy now (exchanges (calls (rest (at w.seen i)))) key value
+    pub owned : (key : K) (now : ℕ) (value : V) → IsCurrent keys plan.policy now (exchanges (calls (rest (at w.seen i)))) key value
         → OnlyBy keys v.by key (rest (at w.seen i)) → value_written keys key (exchanges (joined (at v.mine i))) ≡ Some value
     owned key now value is only = same_written key only ∙ (ap (option_map (λ write. write.value)) is.1 ∙ ap Some is.2)
 
     -- a value that is current meets the rule of pairs
-    met : Agree keys.eq rules → LastWritesAreInserts keys V → (key : K) (now : ℕ) (value : V)
+    pub met : Agree keys.eq rules → LastWritesAreInserts keys V → (key : K) (now : ℕ) (value : V)
         → IsCurrent keys plan.policy now (exchanges (calls (rest (at w.seen i)))) key value → rules.holds key value
-    met agree writes key now value is =
-        let last = writes (exchanges (calls (rest (at w.seen i)))) key is.0 is.1 in
-        let before : Every (λ call. Put rules call.request) (calls (rest (at w.seen i))) =
-        every_call (λ call. Put rules call.request) (rest (at w.seen i))
-        (every_weaker (λ by call. IsPermitted rules by call.request) (λ call. Put rules call.request) (rest (at w.seen i))
-        (λ by call may. put_of rules by call.request may) ruled_before) in
-        let insert : Put rules last.insert.request = ruled_at last.since last.insert last.earlier (calls (rest (at w.seen i))) last.parts before in
-        let put : rules.holds last.other is.0.value = subst (Put rules) last.asked insert in
-        subst (λ x. rules.holds key x) is.2 (agree.holds last.other key is.0.value last.equal put)
-      where
-        ruled_at : (since : List (Exchange K V)) (insert : Exchange K V) (earlier : List (Exchange K V)) (past : List (Transition K V S W))
-            → exchanges past ≡ since ++ insert ∷ earlier
-            → Every (λ call. Put rules call.request) past → Put rules insert.request
-        ruled_at [] insert earlier [] parts all = absurd (cc)
-        ruled_at [] insert earlier (call ∷ past) parts all = subst (λ (e : Exchange K V). Put rules e.request)
-            (head_is (exchange_of call) insert (exchanges past) earlier parts) all.0
-        ruled_at (e ∷ since) insert earlier [] parts all = absurd (cc)
-        ruled_at (e ∷ since) insert earlier (call ∷ past) parts all = ruled_at since insert earlier past
-            (tail_is (exchange_of call) e (exchanges past) (since ++ insert ∷ earlier) parts) all.1
+    met agree writes key now value is = met_in keys rules plan.policy agree writes (rest (at w.seen i)) ruled_before key now value is
 
   module _ (v w : Knows K V S W) (i : ℕ) (key : K) (now : ℕ) (found : Option V) (m : MakesIn keys weighs rules plan v i (Get key now) (Found found) w) where
     hits : HitsAreCurrent keys weighs → Hits keys weighs plan.policy key now found (at w.seen i)

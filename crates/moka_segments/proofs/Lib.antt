@@ -11,3 +11,4 @@ mod ToldLemmas
 mod NoteLemmas
 mod NotifyLemmas
 mod ProbeLemmas
+mod ModifyLemmas

@@ -9,3 +9,4 @@ pub mod Put
 pub mod Session
 pub mod Notifying
 pub mod Probes
+pub mod Modify

@@ -193,7 +193,7 @@ impl<K, V, W: Drop, P> CacheBuilder<K, V, W, P> {
         }
     }
 
-    /// Sets the weigher. It is called under the lock of the key's segment, once for each insert that isn't refused memory.
+    /// Sets the weigher. It is called under the lock of the key's segment, once for each insert that isn't refused memory and each modification.
     pub fn weigher<N: Weighing<K, V>>(self, weigher: N) -> CacheBuilder<K, V, N, P>
         ensures { result ≡ record {
           policy = self.policy;

@@ -11,6 +11,7 @@ ghost use Rattle.moka_segments.specs.Tells.{Gets, GetsOrInserts, Inserts, Looks,
 ghost use Rattle.moka_segments.specs.TellsAll.{InvalidatesAllIf, SweepsAll, TellsSnapshot};
 ghost use Rattle.moka_row.specs.Visits.{guest, newcomer};
 
+mod modify;
 mod probes;
 
 use crate::builder::CacheBuilder;

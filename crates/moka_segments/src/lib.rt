@@ -12,6 +12,7 @@ pub mod error;
 mod invalidate_if;
 mod iter;
 mod make;
+mod modify;
 pub mod note;
 pub mod notifying_cache;
 pub mod own;

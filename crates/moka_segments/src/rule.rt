@@ -3,9 +3,9 @@ ghost use Rattle.std.specs.Prelude.{⊤};
 
 /// Rules of a cache: which pairs may be inserted, and which visitors may insert, invalidate or remove a key.
 ///
-/// Each insert has to meet the rule of pairs, and each pair that is found does. A visitor is named by its number: sessions from `SegmentedCache::session`
-/// have the numbers of guests (`guest`), and `Owners` hands out sessions with those of owners (`owner`). If only one number may write a key, its session
-/// finds there what it wrote last, or nothing for a reason, whatever other threads do.
+/// Each insert and each change of a value has to meet the rule of pairs, and each pair that is found does. A visitor is named by its number: sessions from
+/// `SegmentedCache::session` have the numbers of guests (`guest`), and `Owners` hands out sessions with those of owners (`owner`). If only one number may write
+/// a key, its session finds there what it wrote last, or nothing for a reason, whatever other threads do.
 ///
 /// This is the rule of a cache whose keys have one writer, the first owner:
 ///

@@ -11,6 +11,7 @@ ghost use Rattle.moka_segments.specs.TellsAll.{TellsSnapshot};
 
 mod insert;
 mod listener;
+mod modify;
 mod probes;
 mod sweeps;
 

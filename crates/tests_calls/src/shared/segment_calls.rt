@@ -9,6 +9,7 @@ use moka_segments::error::BuildError;
 use moka_segments::own::both;
 use moka_segments::weigher::Weighing;
 use moka_unsync::error::TryInsertError;
+use moka_unsync_model::listener::Statistics;
 use std::alloc::Global;
 use std::sync::Wait;
 use std::test::Fail;
@@ -138,6 +139,41 @@ fn weighed<R: Wait>(rt: &R, alloc: Global) -> Result<(u64, u64), Fail> {
     Ok((cache.entry_count(rt), cache.weighted_size(rt)))
 }
 
+/// The answers to changes of values, and what is found then. Also the weight of all entries, and how many a listener got as expired and as replaced.
+fn changed<R: Wait>(
+    rt: &R,
+    alloc: Global,
+) -> Result<([bool; 4], [Option<u64>; 2], [u64; 3]), Fail> {
+    let cache = Numbers::builder(alloc)
+        .max_capacity(1000)
+        .num_segments(2)
+        .time_to_live(Duration::from_nanos(10))
+        .weigher(ByValue)
+        .build()?;
+    let mut session = cache.session()?.with_listener(Statistics::default());
+    let start = Instant::from_nanos(0);
+    let end = Instant::from_nanos(10);
+    cache.insert(rt, 1, 30, start)?;
+    cache.insert(rt, 2, 4, start)?;
+    let double = |value: &mut u64| *value = value.wrapping_mul(2);
+    let answers = [
+        session.modify(rt, &1, Instant::from_nanos(5), double),
+        cache.modify(rt, &1, Instant::from_nanos(9), double),
+        cache.modify(rt, &3, start, double),
+        session.modify(rt, &2, end, double),
+    ];
+    let found = [
+        session.get(rt, &1, Instant::from_nanos(18))?,
+        session.get(rt, &2, end)?,
+    ];
+    let told = session.into_listener();
+    Ok((
+        answers,
+        found,
+        [cache.weighted_size(rt), told.expired, told.replaced],
+    ))
+}
+
 fn owned<R: Wait>(rt: &R, alloc: Global) -> Result<(Option<u64>, usize), Fail> {
     let builder = Numbers::builder(alloc).max_capacity(6_399);
     let (cache, mut owners) = builder.build_owned(FixedState::default())?;
@@ -229,6 +265,15 @@ fn a_look_is_no_access(rt: HostRuntime) -> Result<(), Fail> {
 #[test]
 fn a_weigher_is_asked(rt: HostRuntime) -> Result<(), Fail> {
     assert_eq!(rt; weighed(&rt, rt.alloc())?, (2, 34));
+    Ok(())
+}
+
+// The change at 9 is a write, so the entry lives until 19.
+#[test]
+fn a_value_is_changed_in_its_place(rt: HostRuntime) -> Result<(), Fail> {
+    let (answers, found, counts) = changed(&rt, rt.alloc())?;
+    assert_eq!(rt; answers, [true, true, false, false]);
+    assert_eq!(rt; (found, counts), ([Some(120), None], [120, 1, 0]));
     Ok(())
 }
 
