@@ -9,12 +9,12 @@
 //! its slot.
 //!
 //! A table calls no code of the user but `==` of keys and a predicate, both before it changes
-//! anything, and the change of a value that it has found. It drops no key and no value: what leaves is
+//! an entry, and the change of a value that it has found. It drops no key and no value: what leaves is
 //! in `left`, or is returned. So its owner can release a lock first.
 
 use crate::clock::nanoseconds;
 use crate::error::{BuildError, OutOfMemory, TimedInsertError};
-use crate::handle::{Cause, Handle, Inserted, Numbers, Statistics};
+use crate::handle::{Cause, Handle, Inserted, Numbers, Removed, Statistics};
 use crate::limits::Limits;
 use std::borrow::Borrow;
 use std::collections::{HashMap, VecDeque};
@@ -32,12 +32,16 @@ pub(crate) struct Table<K, V> {
     slots: Vec<Slot<K, V>>,
     /// The first of the free slots.
     free: Option<u32>,
+    /// The number of filled slots.
+    filled: u64,
     /// By hash, the numbers and slots of the entries whose number isn't their hash.
     displaced: HashMap<u64, Vec<(u64, u32)>>,
     /// The entries that left, in this order, until the owner takes them.
     pub(crate) left: VecDeque<Left<K, V>>,
     expires: bool,
+    has_time_to_idle: bool,
     is_weighed: bool,
+    is_adaptive: bool,
     capacity: u64,
 }
 
@@ -141,16 +145,36 @@ impl<K, V> Table<K, V> {
             numbers: Handle::<Numbers>::open(&settings)?,
             slots,
             free: None,
+            filled: 0,
             displaced: HashMap::new(),
             left: VecDeque::new(),
             expires: limits.has_duration(),
+            has_time_to_idle: limits.time_to_idle.is_some(),
             is_weighed: limits.is_weighed,
+            is_adaptive: settings.is_adaptive,
             capacity: settings.capacity,
         })
     }
 
     /// Looks up the key, which counts as an access, and returns its slot.
     pub(crate) fn get<Q>(&mut self, key: &Q, hash: u64, now: u64) -> Option<u32>
+    where
+        K: Borrow<Q>,
+        Q: Eq + ?Sized,
+    {
+        if self.has_time_to_idle || !self.displaced.is_empty() {
+            return self.get_found(key, hash, now);
+        }
+        // Each entry's number is its hash. Once in 2^64 times another key's entry has this hash. It is
+        // used then, which changes its place, but no deadline.
+        let slot = self.numbers.get(hash, now);
+        self.drain_removed();
+        let slot = slot? as u32;
+        self.has(slot, key).then_some(slot)
+    }
+
+    /// Looks up the key, as `get` does, and finds its number first.
+    fn get_found<Q>(&mut self, key: &Q, hash: u64, now: u64) -> Option<u32>
     where
         K: Borrow<Q>,
         Q: Eq + ?Sized,
@@ -220,7 +244,7 @@ impl<K, V> Table<K, V> {
         self.put(number, slot, write)?;
         let (key, value) = taken(entry);
         let old = mem::replace(&mut self.filled_mut(slot).value, value);
-        self.drain();
+        self.drain_known(1);
         Ok(Done::Replaced(slot, key, old))
     }
 
@@ -233,6 +257,7 @@ impl<K, V> Table<K, V> {
     ) -> Result<Done<K, V>, TimedInsertError> {
         let slot = self.place(entry, number, hash)?;
         let inserted = self.put(number, slot, write);
+        let above = self.filled.saturating_sub(self.capacity);
         let done = match inserted {
             Ok(Inserted::Stored) => Ok(Done::New(slot)),
             Ok(Inserted::Rejected) => {
@@ -245,7 +270,7 @@ impl<K, V> Table<K, V> {
                 Err(error)
             }
         };
-        self.drain();
+        self.drain_known(above);
         done
     }
 
@@ -359,6 +384,7 @@ impl<K, V> Table<K, V> {
         while self.numbers.drain().is_some() {}
         self.displaced.clear();
         self.free = None;
+        self.filled = 0;
         for slot in self.slots.drain(..) {
             if let Slot::Filled(Filled { key, value, .. }) = slot {
                 let cause = Cause::Explicit;
@@ -488,6 +514,7 @@ impl<K, V> Table<K, V> {
         if let Slot::Free(next) = mem::replace(&mut self.slots[slot as usize], filled) {
             self.free = next;
         }
+        self.filled += 1;
         if displaced_from.is_some() {
             self.displaced.entry(hash).or_default().push((number, slot));
         }
@@ -500,6 +527,7 @@ impl<K, V> Table<K, V> {
         match mem::replace(&mut self.slots[slot as usize], free) {
             Slot::Filled(filled) => {
                 self.free = Some(slot);
+                self.filled -= 1;
                 if let Some(hash) = filled.displaced_from {
                     self.forget(hash, slot);
                 }
@@ -538,17 +566,36 @@ impl<K, V> Table<K, V> {
     /// Moves the entries of the queue out of their slots, and counts them.
     fn drain_queue(&mut self) -> u64 {
         let mut drained = 0;
-        while let Some(removed) = self.numbers.drain() {
+        while self.drain_one() {
             drained += 1;
-            // The caller of an update has the old value, and that of an insert the rejected entry.
-            if !matches!(removed.cause, Cause::Replaced | Cause::Rejected) {
-                self.take_out(removed.value as u32, removed.cause);
-            }
         }
         drained
     }
 
-    /// Moves an entry that left out of its slot.
+    /// Takes what left next out of its slot, and returns `false` if there is none.
+    fn drain_one(&mut self) -> bool {
+        let Removed { value, cause, .. } = match self.numbers.drain() {
+            Some(removed) => removed,
+            None => return false,
+        };
+        // The caller of an update has the old value, and that of an insert the rejected entry.
+        if !matches!(cause, Cause::Replaced | Cause::Rejected) {
+            self.take_out(value as u32, cause);
+        }
+        true
+    }
+
+    /// Drains what an insert made leave. Where nothing but the limit makes entries leave, these are so
+    /// many.
+    fn drain_known(&mut self, entries: u64) {
+        if self.expires || self.is_weighed || self.is_adaptive {
+            return self.drain();
+        }
+        for _ in 0..entries {
+            self.drain_one();
+        }
+    }
+
     fn take_out(&mut self, slot: u32, cause: Cause) {
         let Filled { key, value, .. } = self.vacate(slot);
         self.left.push_back(Left { key, value, cause });
