@@ -8,8 +8,8 @@
 //! In a weighed cache the upper half of the number's value is the entry's weight, and the lower half
 //! its slot.
 //!
-//! A table calls no code of the user but `==` of keys and a predicate, both before it changes
-//! an entry, and the change of a value that it has found. It drops no key and no value: what leaves is
+//! A table calls no code of the user but `==` of keys and a predicate, before it changes an entry or
+//! where it can undo the change, and the change of a value that it has found. It drops no key and no value: what leaves is
 //! in `left`, or is returned. So its owner can release a lock first.
 
 use crate::clock::nanoseconds;
@@ -19,6 +19,7 @@ use crate::limits::Limits;
 use std::borrow::Borrow;
 use std::collections::{HashMap, VecDeque};
 use std::mem;
+use std::panic::{catch_unwind, resume_unwind, AssertUnwindSafe};
 use std::time::Duration;
 
 /// The largest queue of the library's removed entries. A call removes at most 100 entries by their
@@ -220,6 +221,22 @@ impl<K, V> Table<K, V> {
     where
         K: Eq,
     {
+        if !self.expires && !self.is_weighed && self.displaced.is_empty() {
+            return self.insert_at_hash(entry, hash, write);
+        }
+        self.insert_found(entry, hash, write)
+    }
+
+    /// Inserts the entry, as `insert` does, and finds the number of its key first.
+    fn insert_found(
+        &mut self,
+        entry: &mut Option<(K, V)>,
+        hash: u64,
+        write: Write,
+    ) -> Result<Done<K, V>, TimedInsertError>
+    where
+        K: Eq,
+    {
         let found = match &*entry {
             Some((key, _)) => self.find(key, hash, write.now),
             None => unreachable!("there is an entry to insert"),
@@ -231,6 +248,77 @@ impl<K, V> Table<K, V> {
             Found::Here { number, .. } | Found::Nowhere { number } => {
                 self.insert_new(entry, number, hash, write)
             }
+        }
+    }
+
+    /// Inserts the entry, as `insert` does, in a cache without durations and weights where each entry's
+    /// number is its hash: what leaves for it tells whether the number had an entry.
+    fn insert_at_hash(
+        &mut self,
+        entry: &mut Option<(K, V)>,
+        hash: u64,
+        write: Write,
+    ) -> Result<Done<K, V>, TimedInsertError>
+    where
+        K: Eq,
+    {
+        let slot = self.place(entry, hash, hash)?;
+        match self.put(hash, slot, write) {
+            Ok(Inserted::Stored) => {}
+            Ok(Inserted::Rejected) => {
+                self.drain();
+                let filled = self.vacate(slot);
+                return Ok(Done::Rejected(filled.key, filled.value));
+            }
+            Err(error) => {
+                let filled = self.vacate(slot);
+                *entry = Some((filled.key, filled.value));
+                return Err(error);
+            }
+        }
+        match self.numbers.drain() {
+            Some(removed) if removed.cause == Cause::Replaced => {
+                self.replace_at_hash(entry, hash, write, removed.value as u32, slot)
+            }
+            Some(removed) => {
+                self.take_out(removed.value as u32, removed.cause);
+                if self.is_adaptive {
+                    self.drain();
+                }
+                Ok(Done::New(slot))
+            }
+            None => Ok(Done::New(slot)),
+        }
+    }
+
+    /// Ends an insert into a new slot under a number whose entry is in an old one. If that has another
+    /// key, it gets its number back, as it does if a comparison panics.
+    fn replace_at_hash(
+        &mut self,
+        entry: &mut Option<(K, V)>,
+        hash: u64,
+        write: Write,
+        old: u32,
+        slot: u32,
+    ) -> Result<Done<K, V>, TimedInsertError>
+    where
+        K: Eq,
+    {
+        let is_same = || self.pair(old).0 == self.pair(slot).0;
+        let is_same = catch_unwind(AssertUnwindSafe(is_same));
+        if let Ok(true) = is_same {
+            let replaced = self.vacate(old);
+            let key = mem::replace(&mut self.filled_mut(slot).key, replaced.key);
+            return Ok(Done::Replaced(slot, key, replaced.value));
+        }
+        // There is capacity, so this is not refused.
+        let _ = self.put(hash, old, write);
+        self.drain_one();
+        let filled = self.vacate(slot);
+        *entry = Some((filled.key, filled.value));
+        match is_same {
+            Ok(_) => self.insert_found(entry, hash, write),
+            Err(panic) => resume_unwind(panic),
         }
     }
 
