@@ -33,8 +33,6 @@ pub(crate) struct Table<K, V> {
     slots: Vec<Slot<K, V>>,
     /// The first of the free slots.
     free: Option<u32>,
-    /// The number of filled slots.
-    filled: u64,
     /// By hash, the numbers and slots of the entries whose number isn't their hash.
     displaced: HashMap<u64, Vec<(u64, u32)>>,
     /// The entries that left, in this order, until the owner takes them.
@@ -146,7 +144,6 @@ impl<K, V> Table<K, V> {
             numbers: Handle::<Numbers>::open(&settings)?,
             slots,
             free: None,
-            filled: 0,
             displaced: HashMap::new(),
             left: VecDeque::new(),
             expires: limits.has_duration(),
@@ -332,7 +329,7 @@ impl<K, V> Table<K, V> {
         self.put(number, slot, write)?;
         let (key, value) = taken(entry);
         let old = mem::replace(&mut self.filled_mut(slot).value, value);
-        self.drain_known(1);
+        self.drain();
         Ok(Done::Replaced(slot, key, old))
     }
 
@@ -345,7 +342,6 @@ impl<K, V> Table<K, V> {
     ) -> Result<Done<K, V>, TimedInsertError> {
         let slot = self.place(entry, number, hash)?;
         let inserted = self.put(number, slot, write);
-        let above = self.filled.saturating_sub(self.capacity);
         let done = match inserted {
             Ok(Inserted::Stored) => Ok(Done::New(slot)),
             Ok(Inserted::Rejected) => {
@@ -358,7 +354,7 @@ impl<K, V> Table<K, V> {
                 Err(error)
             }
         };
-        self.drain_known(above);
+        self.drain();
         done
     }
 
@@ -472,7 +468,6 @@ impl<K, V> Table<K, V> {
         while self.numbers.drain().is_some() {}
         self.displaced.clear();
         self.free = None;
-        self.filled = 0;
         for slot in self.slots.drain(..) {
             if let Slot::Filled(Filled { key, value, .. }) = slot {
                 let cause = Cause::Explicit;
@@ -602,7 +597,6 @@ impl<K, V> Table<K, V> {
         if let Slot::Free(next) = mem::replace(&mut self.slots[slot as usize], filled) {
             self.free = next;
         }
-        self.filled += 1;
         if displaced_from.is_some() {
             self.displaced.entry(hash).or_default().push((number, slot));
         }
@@ -615,7 +609,6 @@ impl<K, V> Table<K, V> {
         match mem::replace(&mut self.slots[slot as usize], free) {
             Slot::Filled(filled) => {
                 self.free = Some(slot);
-                self.filled -= 1;
                 if let Some(hash) = filled.displaced_from {
                     self.forget(hash, slot);
                 }
@@ -671,17 +664,6 @@ impl<K, V> Table<K, V> {
             self.take_out(value as u32, cause);
         }
         true
-    }
-
-    /// Drains what an insert made leave. Where nothing but the limit makes entries leave, these are so
-    /// many.
-    fn drain_known(&mut self, entries: u64) {
-        if self.expires || self.is_weighed || self.is_adaptive {
-            return self.drain();
-        }
-        for _ in 0..entries {
-            self.drain_one();
-        }
     }
 
     fn take_out(&mut self, slot: u32, cause: Cause) {

@@ -122,6 +122,9 @@ impl Tried {
             })),
             _ => drop(cache.get(&Key(number)).map(|found| found.0)),
         }));
+        // The caller gets the panic.
+        let panicked = fuse.is_some() && FUSE.with(Cell::get).is_none();
+        assert_eq!(made.is_err(), panicked);
         FUSE.with(|it| it.set(None));
         let allowed = self.model.entry(number).or_default();
         match call {
