@@ -9,8 +9,8 @@
 //! its slot.
 //!
 //! A table calls no code of the user but `==` of keys and a predicate, before it changes an entry or
-//! where it can undo the change, and the change of a value that it has found. It drops no key and no value: what leaves is
-//! in `left`, or is returned. So its owner can release a lock first.
+//! where it can undo the change, and the change of a value that it has found. It drops no key and no
+//! value: what leaves is in `left`, or is returned. So its owner can release a lock first.
 
 use crate::clock::nanoseconds;
 use crate::error::{BuildError, OutOfMemory, TimedInsertError};
@@ -273,17 +273,19 @@ impl<K, V> Table<K, V> {
                 return Err(error);
             }
         }
-        match self.numbers.drain() {
-            Some(removed) if removed.cause == Cause::Replaced => {
-                self.replace_at_hash(entry, hash, write, removed.value as u32, slot)
+        let mut old = None;
+        while let Some(removed) = self.numbers.drain() {
+            match removed.cause {
+                Cause::Replaced => old = Some(removed.value as u32),
+                cause => self.take_out(removed.value as u32, cause),
             }
-            Some(removed) => {
-                self.take_out(removed.value as u32, removed.cause);
-                if self.is_adaptive {
-                    self.drain();
-                }
-                Ok(Done::New(slot))
+            // Where the window's share is fixed, one entry leaves at most.
+            if !self.is_adaptive {
+                break;
             }
+        }
+        match old {
+            Some(old) => self.replace_at_hash(entry, hash, write, old, slot),
             None => Ok(Done::New(slot)),
         }
     }
@@ -666,6 +668,7 @@ impl<K, V> Table<K, V> {
         true
     }
 
+    /// Moves an entry that left out of its slot.
     fn take_out(&mut self, slot: u32, cause: Cause) {
         let Filled { key, value, .. } = self.vacate(slot);
         self.left.push_back(Left { key, value, cause });
